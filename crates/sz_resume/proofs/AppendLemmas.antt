@@ -1,6 +1,6 @@
 -- A round that was run and is appended to the journal.
-use Rattle.std.proofs.Common.{◌≡◌, ◌⊎◌, inl, inr, ℕ, ◌+◌, ◌-◌, ◌^◌, ◌<◌, ◌≤◌, true, List, [], ◌∷◌, ◌++◌, length, drop, Option, Some, None, IfSome}
-use Rattle.std.proofs.Common.{refl, sym, ap, ◌∙◌, subst, arith, append-nil}
+use Rattle.std.proofs.Common.{◌≡◌, inl, inr, ℕ, ◌+◌, ◌-◌, ◌^◌, ◌≤◌, true, List, [], ◌∷◌, ◌++◌, length, drop, Option, Some, None, IfSome}
+use Rattle.std.proofs.Common.{refl, sym, subst, arith, append-nil}
 use Rattle.sz_types.specs.Tables.{Declaration}
 use Rattle.sz_mean.specs.Marked.{all_tables}
 use Rattle.sz_tabs.specs.Data.{EmitDatum}
@@ -8,8 +8,7 @@ use Rattle.sz_attempt.specs.declared.job.Job.{Job}
 use Rattle.sz_attempt.specs.Shards.{IsJob}
 use Rattle.sz_rounds.specs.Outcomes.{emitted, outcome_from}
 use Rattle.sz_rounds.specs.Rounds.{shards_of, IsRound}
-use Rattle.sz_disk.specs.Crashes.{Images, are_told, MayBe}
-use Rattle.sz_disk.specs.Calls.{AreAmong}
+use Rattle.sz_disk.specs.Crashes.{Images, are_told}
 use Rattle.sz_gates.specs.Crashing.{Rests, LeavesOnly}
 use Rattle.sz_gates.proofs.ForCallers.{leaves_if}
 use Rattle.sz_journal_format.specs.declared.job.JobBytes.{JobBytes}
@@ -23,16 +22,16 @@ use Rattle.sz_stream.specs.Intakes.{moved_on}
 use Rattle.sz_stream.specs.InputRuns.{HasRound}
 use Rattle.sz_stream.proofs.RunLemmas as runs
 use Rattle.sz_resume.specs.Standing.{Source, Stands}
-use Rattle.sz_resume.specs.Stops.{IsLeft, LeavesRounds}
+use Rattle.sz_resume.specs.Stops.{IsLeft, LeavesRounds, SpellsMore}
 use Rattle.sz_resume.specs.Runs.{IsJournalOf, HasJournal}
 use Rattle.sz_resume.specs.Entries.{done_of, IsNext}
-use Rattle.sz_resume.specs.Turns.{AllStand, IsFresh, IsBehind, HasNext, AddsRound}
+use Rattle.sz_resume.specs.Turns.{AllStand, IsBehind, HasNext, AddsRound}
 use Rattle.sz_resume.proofs.NumberLemmas.{are_more}
-use Rattle.sz_resume.proofs.LeaveLemmas.{leaves_nothing}
 use Rattle.sz_resume.proofs.NextLemmas as rounds
+use Rattle.sz_resume.proofs.WayLemmas.{spelled_at}
 use Rattle.sz_resume.proofs.TurnLemmas.{found_stands, stands_more, stand_more, fresh_of, goes_on_behind, goes_behind}
 
-module _ (job : Job) (before : List RoundEntry) (old : Intake) (h : HasNext job before old) where
+module _ {job : Job} {before : List RoundEntry} {old : Intake} (h : HasNext job before old) where
   -- what the calls of a round ask for
   pub has_round : (emits : List EmitDatum) × HasRound job old emits
   has_round = (
@@ -61,21 +60,22 @@ module _ (job : Job) (before : List RoundEntry) (old : Intake) (h : HasNext job 
   few_numbers = runs.few_numbers (done_of (last_progress before)) job h.frame h.most old h.emits h.read h.over h.fresh.running
 
 -- the round gave its emits, and this is its entry
-module _ (job : Job) (before : List RoundEntry) (old : Intake) (h : HasNext job before old) (es : List EmitDatum) (n : ℕ)
-    (is : outcome_from job old.round.passed (shards_of old.round) ≡ emitted es n) (round : RoundEntry) (next : IsNext job old n es round) where
+module _ {job : Job} {before : List RoundEntry} {old : Intake} (h : HasNext job before old) {es : List EmitDatum} {n : ℕ}
+    (is : outcome_from job old.round.passed (shards_of old.round) ≡ emitted es n) {round : RoundEntry} (next : IsNext job old n es round) where
   are_then : (name : JobBytes) → AreRounds name (all_tables job.compiled) before → name.budget ≡ job.budget → name.skip ≡ job.skip → job.budget ≤ 2 ^ 32
       → AreRounds name (all_tables job.compiled) (before ++ round ∷ [])
   are_then name are budget skip low =
       are_more name (all_tables job.compiled) before round are
-      (rounds.may_follow (done_of (last_progress before)) job h.frame h.most old h.emits h.read h.over h.fresh h.some es n is round next name
+      (rounds.may_follow h.fresh h.some is next name
       (last_progress before) refl budget skip) (omega (arith, low, budget))
 
   pub adds_round : (all : List RoundEntry) → all ≡ before ++ round ∷ [] → AddsRound job before all old (moved_on n old)
   adds_round all all_are = record {
     round = round;
     is = all_are;
-    further = rounds.further (done_of (last_progress before)) job h.frame h.most old h.emits h.read h.over h.fresh h.some es n is round next;
-    rises = rounds.rises (done_of (last_progress before)) job h.frame h.most old h.emits h.read h.over h.fresh h.some es n is round next;
+    small = (rounds.is_small h.fresh h.some is next, tt);
+    further = rounds.further h.fresh h.some is next;
+    rises = rounds.rises h.fresh h.some is next;
     goes_on = λ frame most start left b. goes_behind job before all old es n round is next all_are h.some frame most start left b;
   }
 
@@ -83,9 +83,8 @@ module _ (job : Job) (before : List RoundEntry) (old : Intake) (h : HasNext job 
   pub all_stand : (source : Source) (start left : Option (List ℕ)) → IsBehind job source.frame source.most before old start left
       → start ≡ Some (drop (last_progress before).bytes source.bytes) → AllStand job source before → AllStand job source (before ++ round ∷ [])
   all_stand source start left b told all records ending sizes cut are =
-      stand_more job source before all records ending sizes cut are old b.emits b.reached.read b.reached.over
-      (fresh_of job source.frame source.most before old start left b)
-      (goes_on_behind job source.frame source.most before old start left b (drop (last_progress before).bytes source.bytes) told) h.some es n is round next
+      stand_more job source before all records ending sizes cut are (fresh_of b)
+      (goes_on_behind b (drop (last_progress before).bytes source.bytes) told) h.some es n is round next
 
   module _ (journal : Journal) (same : rounds_of journal ≡ before) where
     are_of : (name : JobBytes) (bytes : Option (List ℕ)) → IsJournalOf name job journal bytes → IsJob job
@@ -133,10 +132,6 @@ module _ (job : Job) (before : List RoundEntry) (old : Intake) (h : HasNext job 
           are = subst (AreRounds name (all_tables job.compiled)) (sym all_are) are;
         }
 
-    spelled : (name : JobBytes) (bytes : Option (List ℕ)) (held : List ℕ) → bytes ≡ Some held → IsJournalOf name job journal bytes
-        → Spells name (all_tables job.compiled) held (rounds_of journal)
-    spelled name bytes held told j = subst (λ b. IfSome b (λ held. Spells name (all_tables job.compiled) held (rounds_of journal))) told j.spells
-
     -- and a crash leaves what a read gives
     pub keeps_then : (new : Journal) (bytes after : Option (List ℕ)) (may_leave : Images) → IsJob job → rounds_of new ≡ rounds_of journal ++ round ∷ []
         → ((name : JobBytes) (decls : List Declaration) (held : List ℕ) → bytes ≡ Some held → IsOf name journal → Spells name decls held (rounds_of journal)
@@ -145,29 +140,46 @@ module _ (job : Job) (before : List RoundEntry) (old : Intake) (h : HasNext job 
         → KeepsRounds after may_leave name (all_tables job.compiled) (rounds_of new)
     keeps_then new bytes after may_leave job_is all_are ok name held told j =
         subst (KeepsRounds after may_leave name (all_tables job.compiled)) (sym all_are)
-        (ok name (all_tables job.compiled) held told j.is_of (spelled name bytes held told j) (are_of name bytes j job_is))
+        (ok name (all_tables job.compiled) held told j.is_of (spelled_at told j) (are_of name bytes j job_is))
 
     -- whatever the append answers, a crash leaves the journal with the round or without it
-    module _ {D : Type 0} (time : D → ℕ) (left_since : D → ℕ → Images) where
-      pub leaves_round : (disk after : D) (bytes : Option (List ℕ)) (may_leave : Images) → IsJob job
+    module _ {D : Type 0} {time : D → ℕ} {left_since : D → ℕ → Images} {disk after : D} {bytes : Option (List ℕ)} {may_leave : Images} where
+      pub entries_round : IsJob job
           → ((name : JobBytes) (decls : List Declaration) (held : List ℕ) → Rests bytes may_leave held → IsOf name journal
           → Spells name decls held (rounds_of journal) → AreRounds name decls (rounds_of journal ++ round ∷ []) → are_told may_leave ≡ true
           → LeavesOnly time left_since disk after (SpellsOneOf name decls (rounds_of journal) round))
-          → (name : JobBytes) (source : Source) (held : List ℕ) (start left : Option (List ℕ))
+          → (name : JobBytes) (held : List ℕ) → Rests bytes may_leave held → are_told may_leave ≡ true → IsJournalOf name job journal bytes
+          → LeavesOnly time left_since disk after (SpellsMore name (all_tables job.compiled) (rounds_of journal))
+      entries_round job_is leaves name held rests is_told j =
+          leaves_if time left_since disk after (SpellsOneOf name (all_tables job.compiled) (rounds_of journal) round)
+          (SpellsMore name (all_tables job.compiled) (rounds_of journal)) more_so
+          (leaves name (all_tables job.compiled) held rests j.is_of (spelled_at rests.read j) (are_of name bytes j job_is) is_told)
+        where
+          more_so : (image : List ℕ) → SpellsOneOf name (all_tables job.compiled) (rounds_of journal) round image
+              → SpellsMore name (all_tables job.compiled) (rounds_of journal) image
+          more_so image (inl spells) = ([], subst (Spells name (all_tables job.compiled) image) (sym (append-nil (rounds_of journal))) spells)
+          more_so image (inr spells) = (round ∷ [], spells)
+
+    module _ {D : Type 0} {time : D → ℕ} {left_since : D → ℕ → Images} {disk after : D} {bytes : Option (List ℕ)} {may_leave : Images} {name : JobBytes}
+        {source : Source} {held : List ℕ} {start left : Option (List ℕ)} where
+      pub leaves_round : IsJob job
+          → ((name : JobBytes) (decls : List Declaration) (held : List ℕ) → Rests bytes may_leave held → IsOf name journal
+          → Spells name decls held (rounds_of journal) → AreRounds name decls (rounds_of journal ++ round ∷ []) → are_told may_leave ≡ true
+          → LeavesOnly time left_since disk after (SpellsOneOf name decls (rounds_of journal) round))
           → IsBehind job source.frame source.most (rounds_of journal) old start left
           → start ≡ Some (drop (last_progress (rounds_of journal)).bytes source.bytes) → Stands name job source held (rounds_of journal)
           → Rests bytes may_leave held → are_told may_leave ≡ true → IsJournalOf name job journal bytes
           → LeavesRounds time left_since disk after name job source held (rounds_of journal) (round ∷ [])
-      leaves_round disk after bytes may_leave job_is leaves name source held start left b told stands rests is_told j = record {
+      leaves_round job_is leaves b told stands rests is_told j = record {
         found = inr stands;
         small = (
           subst (λ rs. round.next_shard ≤ (last_progress rs).shards + 4096) (sym same)
-              (rounds.is_small (done_of (last_progress before)) job h.frame h.most old h.emits h.read h.over h.fresh h.some es n is round next),
+              (rounds.is_small h.fresh h.some is next),
           tt,
         );
         leaves = leaves_if time left_since disk after (SpellsOneOf name (all_tables job.compiled) (rounds_of journal) round)
             (IsLeft name job source held (rounds_of journal) (round ∷ [])) left_so
-            (leaves name (all_tables job.compiled) held rests j.is_of (spelled name bytes held rests.read j) (are_of name bytes j job_is) is_told);
+            (leaves name (all_tables job.compiled) held rests j.is_of (spelled_at rests.read j) (are_of name bytes j job_is) is_told);
       }
         where
           all_now : AllStand job source (rounds_of journal)

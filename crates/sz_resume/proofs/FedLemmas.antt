@@ -1,13 +1,12 @@
 -- What is known of bytes that were read behind what of an input is done, and of those of them behind some of their records.
-use Rattle.std.proofs.Common.{◌≡◌, ℕ, ◌+◌, ◌-◌, ◌^◌, ◌<◌, ◌≤◌, List, [], ◌∷◌, ◌++◌, length, drop, Bool, true, false, Option, Some, None}
-use Rattle.std.proofs.Common.{refl, sym, ap, ◌∙◌, subst, arith, append-nil, append_assoc, length-append, length-drop}
-use Rattle.std.proofs.lemmas.List.{drop-drop, drop-append-le}
+use Rattle.std.proofs.Common.{◌≡◌, ℕ, ◌+◌, ◌-◌, ◌^◌, ◌<◌, ◌≤◌, List, [], ◌++◌, length, drop, Bool, true, false, Option, Some, None}
+use Rattle.std.proofs.Common.{refl, sym, ap, ◌∙◌, subst, arith, append-nil, length-append, length-drop}
+use Rattle.std.proofs.lemmas.List.{drop-append-le}
 use Rattle.sz_types.specs.declared.frame.Frame.{Frame}
 use Rattle.sz_records.specs.declared.ending.Ending.{Ending}
-use Rattle.sz_records.specs.declared.ending.Ending.TheVariants.{Whole}
 use Rattle.sz_records.specs.declared.limits.FrameLimits.{FrameLimits}
-use Rattle.sz_records.specs.Cutting.{IsCut, place_after, places_of, ends_in}
-use Rattle.sz_records.specs.Fed.{FramerData, HasReadBehind}
+use Rattle.sz_records.specs.Cutting.{IsCut, place_after, ends_in}
+use Rattle.sz_records.specs.Fed.{FramerData}
 use Rattle.sz_records.proofs.CutLaws.{some_cut}
 use Rattle.sz_records.proofs.CutLemmas.{same_places}
 use Rattle.sz_records.proofs.BehindLemmas as behind_some
@@ -81,27 +80,27 @@ module _ (done : Done) (frame : Frame) (framer : FramerData) (read : List ℕ) (
       pub place_low : done.bytes ≤ 2 ^ 40 → place ≤ 2 ^ 40
       place_low low = let b = behind known fed read all_on in let in_input = b.in_input low in omega (arith, in_input, leads read all_on)
 
+      -- what stands behind the place
+      rest_is : (input more : List ℕ) → GoesOn read over input → input ≡ read ++ more
+          → drop (place_after frame full done.bytes done.records input count - done.bytes) input ≡ drop (place - done.bytes) read ++ more
+      rest_is input more on is =
+          let k : place_after frame full done.bytes done.records input count - done.bytes ≡ place - done.bytes = omega (arith, leads input on) in
+          ap (λ n. drop n input) k ∙ ap (drop (place - done.bytes)) is ∙ drop-append-le (place - done.bytes) read more place_within
+
       -- places of further records
       pub later_place : (input more : List ℕ) → GoesOn read over input → input ≡ read ++ more → (j : ℕ)
           → place_after frame full done.bytes done.records input (count + j)
           ≡ place_after frame full place (done.records + count) (drop (place - done.bytes) read ++ more) j
       later_place input more on is j =
-          let b = behind known fed input on in
-          let k : place_after frame full done.bytes done.records input count - done.bytes ≡ place - done.bytes = omega (arith, leads input on) in
-          let same : drop (place_after frame full done.bytes done.records input count - done.bytes) input ≡ drop (place - done.bytes) read ++ more =
-          ap (λ n. drop n input) k ∙ ap (drop (place - done.bytes)) is ∙ drop-append-le (place - done.bytes) read more place_within in
-          b.later j ∙ place_as frame full j (sym (leads input on)) refl same
+          let b = behind known fed input on in b.later j ∙ place_as frame full j (sym (leads input on)) refl (rest_is input more on is)
 
       -- the cut of what stands behind them
-      pub later_cut : (input more : List ℕ) → GoesOn read over input → input ≡ read ++ more → (rs : List (List ℕ)) (e : Ending)
+      later_cut : (input more : List ℕ) → GoesOn read over input → input ≡ read ++ more → (rs : List (List ℕ)) (e : Ending)
           → IsCut frame full done.bytes done.records input (given ++ rs) e
           → IsCut frame full place (done.records + count) (drop (place - done.bytes) read ++ more) (drop count given ++ rs) e
       later_cut input more on is rs e cut =
           let b = goes_on_behind frame full done.bytes done.records input (given ++ rs) e count cut (omega (arith, few, length-append given rs)) in
-          let k : place_after frame full done.bytes done.records input count - done.bytes ≡ place - done.bytes = omega (arith, leads input on) in
-          let same : drop (place_after frame full done.bytes done.records input count - done.bytes) input ≡ drop (place - done.bytes) read ++ more =
-          ap (λ n. drop n input) k ∙ ap (drop (place - done.bytes)) is ∙ drop-append-le (place - done.bytes) read more place_within in
-          cut_as frame full e (sym (leads input on)) refl same (drop-append-le count given rs few) b.rest
+          cut_as frame full e (sym (leads input on)) refl (rest_is input more on is) (drop-append-le count given rs few) b.rest
 
     module _ (next : Done) (bytes_are : next.bytes ≡ place) (records_are : next.records ≡ done.records + count) (low : done.bytes ≤ 2 ^ 40) where
       abbrev pub k : ℕ

@@ -1,9 +1,8 @@
 -- What a call of a job leaves of its journal, from round to round.
-use Rattle.std.proofs.Common.{◌≡◌, ◌⊎◌, inl, inr, ℕ, ◌+◌, ◌<◌, true, List, [], ◌∷◌, ◌++◌, length, Option, Some, IfSome, refl, sym, ap, ◌∙◌, subst, arith, append_assoc, append-nil, length-append}
+use Rattle.std.proofs.Common.{◌≡◌, inl, inr, ℕ, ◌+◌, ◌<◌, true, List, [], ◌∷◌, ◌++◌, length, Option, refl, sym, ap, ◌∙◌, subst, arith, append_assoc, append-nil, length-append}
 use Rattle.sz_types.specs.Tables.{Declaration}
-use Rattle.sz_mean.specs.Marked.{all_tables}
 use Rattle.sz_attempt.specs.declared.job.Job.{Job}
-use Rattle.sz_disk.specs.Crashes.{Images, are_told, MayBe}
+use Rattle.sz_disk.specs.Crashes.{Images, are_told}
 use Rattle.sz_disk.specs.Calls.{AreAmong}
 use Rattle.sz_gates.specs.Crashing.{Rests, LeavesOnly}
 use Rattle.sz_gates.specs.Entries.{with_length, all_opened, IsEmpty}
@@ -11,10 +10,10 @@ use Rattle.sz_gates.proofs.ForCallers.{the_image, leaves_if, leaves_none, leaves
 use Rattle.sz_journal_format.specs.Jobs.{job_bytes}
 use Rattle.sz_journal_format.specs.declared.job.JobBytes.{JobBytes}
 use Rattle.sz_journal_format.specs.declared.round.RoundEntry.{RoundEntry}
-use Rattle.sz_journal_format.specs.Rounds.{round_bytes, no_progress, progress_after, last_progress}
-use Rattle.sz_journal_rules.specs.Journals.{entries_of, Spells}
-use Rattle.sz_resume.specs.Standing.{Source, StandsFor, Stands, IsFound}
-use Rattle.sz_resume.specs.Stops.{AreFirst, IsLeft, AreSmall, LeavesRounds}
+use Rattle.sz_journal_format.specs.Rounds.{round_bytes, no_progress, last_progress}
+use Rattle.sz_journal_rules.specs.Journals.{Spells}
+use Rattle.sz_resume.specs.Standing.{Source, Stands}
+use Rattle.sz_resume.specs.Stops.{IsLeft, AreSmall, LeavesRounds, SpellsMore}
 use Rattle.sz_resume.proofs.NumberLemmas.{progress-append, small-append}
 
 -- a journal that spells a job isn't empty
@@ -78,16 +77,42 @@ module _ (name : JobBytes) (job : Job) (source : Source) where
           (λ image. left_later held now before added more image some) second.leaves);
     }
 
-    -- the disk isn't called
-    pub leaves_nothing : (may_leave : D → Images) (faults : D → ℕ) (bytes : Option (List ℕ)) (old : D) (held : List ℕ) (before : List RoundEntry)
-        → AreAmong (left_since old (time old)) (may_leave old) → Rests bytes (may_leave old) held → are_told (may_leave old) ≡ true
-        → Stands name job source held before → LeavesRounds time left_since old old name job source held before []
-    leaves_nothing may_leave faults bytes old held before now rests told stands = record {
+-- the disk isn't called
+pub leaves_nothing : {D : Type 0} {time : D → ℕ} {left_since : D → ℕ → Images} {old : D} {bytes : Option (List ℕ)} {may_leave : Images} {name : JobBytes}
+    {job : Job} {source : Source} {held : List ℕ} {before : List RoundEntry} → AreAmong (left_since old (time old)) may_leave → Rests bytes may_leave held
+    → are_told may_leave ≡ true → Stands name job source held before → LeavesRounds time left_since old old name job source held before []
+leaves_nothing {time = time} {left_since = left_since} {old = old} {may_leave = may_leave} {name = name} {job = job} {source = source} {held = held}
+    {before = before} now rests told stands = record {
       found = inr stands;
       small = tt;
-      leaves = leaves_none may_leave time left_since faults old (IsLeft name job source held before []) now
-          (λ image left. subst (IsLeft name job source held before []) (sym (the_image (may_leave old) held image told rests.only left)) this);
+      leaves = leaves_none (λ d. may_leave) time left_since time old (IsLeft name job source held before []) now
+          (λ image left. subst (IsLeft name job source held before []) (sym (the_image may_leave held image told rests.only left)) this);
     }
-      where
-        this : IsLeft name job source held before [] held
-        this = inr ([], record { more = []; is = refl }, subst (Stands name job source held) (sym (append-nil before)) stands)
+  where
+    this : IsLeft name job source held before [] held
+    this = inr ([], record { more = []; is = refl }, subst (Stands name job source held) (sym (append-nil before)) stands)
+
+-- ---- whatever the rounds stand for
+
+module _ {D : Type 0} {time : D → ℕ} {left_since : D → ℕ → Images} where
+  -- the disk isn't called
+  pub entries_none : {name : JobBytes} {decls : List Declaration} {disk : D} {bytes : Option (List ℕ)} {may_leave : Images} {held : List ℕ}
+      {rounds : List RoundEntry} → AreAmong (left_since disk (time disk)) may_leave → Rests bytes may_leave held → are_told may_leave ≡ true
+      → Spells name decls held rounds → LeavesOnly time left_since disk disk (SpellsMore name decls rounds)
+  entries_none {name = name} {decls = decls} {disk = disk} {may_leave = may_leave} {held = held} {rounds = rounds} now rests told spells =
+      leaves_none (λ d. may_leave) time left_since time disk (SpellsMore name decls rounds) now
+      (λ image left. (
+        [],
+        subst (λ (b : List ℕ). Spells name decls b (rounds ++ [])) (sym (the_image may_leave held image told rests.only left))
+            (subst (Spells name decls held) (sym (append-nil rounds)) spells),
+      ))
+
+  -- rounds were added, and then others
+  pub entries_both : (name : JobBytes) (decls : List Declaration) {old mid new : D} (first : List RoundEntry) {rounds : List RoundEntry}
+      (added : List RoundEntry) → rounds ≡ first ++ added
+      → LeavesOnly time left_since old mid (SpellsMore name decls first) → LeavesOnly time left_since mid new (SpellsMore name decls rounds)
+      → LeavesOnly time left_since old new (SpellsMore name decls first)
+  entries_both name decls {old = old} {mid = mid} {new = new} first {rounds = rounds} added is before after =
+      leaves_both time left_since old mid new (SpellsMore name decls first) before
+      (leaves_if time left_since mid new (SpellsMore name decls rounds) (SpellsMore name decls first)
+      (λ image s. (added ++ s.0, subst (Spells name decls image) (ap (λ rs. rs ++ s.0) is ∙ append_assoc first added s.0) s.1)) after)

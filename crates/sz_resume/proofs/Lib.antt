@@ -4,7 +4,7 @@ pub mod SkipLemmas
 mod StopLemmas
 mod ShardLemmas
 mod StandLemmas
-mod NumberLemmas
+pub mod NumberLemmas
 mod LeaveLemmas
 mod FedLemmas
 mod NextLemmas

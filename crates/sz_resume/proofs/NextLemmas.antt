@@ -1,25 +1,24 @@
 -- The round at hand behind the rounds of a journal, and what is known behind it.
-use Rattle.std.proofs.Common.{◌≡◌, ℕ, zero, suc, ◌+◌, ◌-◌, ◌*◌, ◌^◌, ◌<◌, ◌≤◌, List, [], ◌∷◌, ◌++◌, length, drop, get_or, Bool, true, Option, Some, None}
-use Rattle.std.proofs.Common.{refl, sym, ap, ◌∙◌, subst, arith, append-nil, append_assoc, length-append, length-drop}
-use Rattle.std.proofs.lemmas.List.{drop-drop}
+use Rattle.std.proofs.Common.{◌≡◌, ℕ, suc, ◌+◌, ◌-◌, ◌*◌, ◌^◌, ◌<◌, ◌≤◌, List, [], ◌∷◌, ◌++◌, length, drop, get_or, Bool, Some}
+use Rattle.std.proofs.Common.{refl, sym, ap, ◌∙◌, subst, arith, length-append, length-drop}
+use Rattle.std.proofs.lemmas.List.{nil_from_length}
 use Rattle.std.specs.Prelude.{is_some}
 use Rattle.sz_types.specs.declared.frame.Frame.{Frame}
-use Rattle.sz_types.specs.Tables.{Declaration}
 use Rattle.sz_mean.specs.Marked.{all_tables}
 use Rattle.sz_tabs.specs.Data.{EmitDatum}
 use Rattle.sz_save_format.specs.Saved.{SavedState}
 use Rattle.sz_save.specs.Saving.{state_of_emits}
 use Rattle.sz_records.specs.declared.ending.Ending.{Ending}
-use Rattle.sz_records.specs.Cutting.{IsCut, place_after}
+use Rattle.sz_records.specs.Cutting.{IsCut, place_after, ends_in}
 use Rattle.sz_records.specs.Shards.{AreShards}
-use Rattle.sz_records.proofs.BehindLemmas.{the_rest_is_cut_so}
 use Rattle.sz_attempt.specs.declared.job.Job.{Job}
 use Rattle.sz_attempt.specs.Shards.{ShardData}
-use Rattle.sz_rounds.specs.Outcomes.{ShardsEnd, emitted, outcome_from, all_records}
+use Rattle.sz_rounds.specs.Outcomes.{emitted, after_front, outcome_from, all_records}
 use Rattle.sz_rounds.specs.Rounds.{shards_of, numbered}
-use Rattle.sz_rounds.specs.Cuts.{ranges_of, cut_into}
+use Rattle.sz_rounds.specs.Cuts.{cut_into}
 use Rattle.sz_rounds.proofs.OutcomeLemmas.{after_nothing}
 use Rattle.sz_rounds.proofs.RangeLemmas.{numbered_cut}
+use Rattle.sz_rounds.proofs.RoundLemmas.{length-numbered}
 use Rattle.sz_journal_format.specs.declared.job.JobBytes.{JobBytes}
 use Rattle.sz_journal_format.specs.declared.progress.Progress.{Progress}
 use Rattle.sz_journal_format.specs.declared.round.RoundEntry.{RoundEntry}
@@ -27,28 +26,19 @@ use Rattle.sz_journal_format.specs.Rounds.{progress_of, MayFollow}
 use Rattle.sz_stream.specs.declared.done.Done.{Done}
 use Rattle.sz_stream.specs.declared.intake.Intake.{Intake}
 use Rattle.sz_stream.specs.Inputs.{full, GoesOn}
-use Rattle.sz_stream.specs.Intakes.{AreClosed, sum_of, IsFed, moved_on, done_with}
+use Rattle.sz_stream.specs.Intakes.{sum_of, IsFed, moved_on, done_with}
 use Rattle.sz_stream.specs.InputRuns.{HasRun, IsRunning}
 use Rattle.sz_stream.proofs.FedLemmas.{begins, few_given}
 use Rattle.sz_stream.proofs.PlaceLemmas.{last_place}
 use Rattle.sz_stream.proofs.PassedLemmas.{few_passed}
-use Rattle.sz_stream.proofs.ShardLemmas.{sum_within, fewer_shards, split, cut_append, length_cut, length-ranges}
+use Rattle.sz_stream.proofs.ShardLemmas.{fewer_shards, split, cut_append, length-ranges}
+use Rattle.sz_stream.proofs.RunLemmas as runs
 use Rattle.sz_resume.specs.Standing.{Source, place_in, IsRoundOf}
 use Rattle.sz_resume.specs.Entries.{done_of, IsNext}
 use Rattle.sz_resume.specs.Turns.{IsFresh}
 use Rattle.sz_resume.proofs.FedLemmas.{place_further, place_within, place_low, later_place, fed_on, ends_on}
-use Rattle.sz_resume.proofs.StandLemmas.{IsAt}
 
-no_items : {X : Type 0} (xs : List X) → length xs ≡ 0 → xs ≡ []
-no_items [] none = refl
-no_items (x ∷ xs) none = absurd (omega (arith, none))
-
-length_numbered : (number : ℕ) (records : List (List ℕ)) (shards : List Rattle.sz_attempt.specs.declared.job.Shard.Shard)
-    → length (numbered number records shards) ≡ length shards
-length_numbered number records [] = refl
-length_numbered number records (s ∷ shards) = ap suc (length_numbered (suc number) records shards)
-
-module _ (done : Done) (job : Job) (frame : Frame) (most : ℕ) (old : Intake) (emits : List EmitDatum) (read : List ℕ) (over : Bool)
+module _ {done : Done} {job : Job} {frame : Frame} {most : ℕ} {old : Intake} {emits : List EmitDatum} {read : List ℕ} {over : Bool}
     (fresh : IsFresh done job frame most old emits read over) where
   h : IsRunning done job frame most old emits read over
   h = fresh.running
@@ -60,7 +50,7 @@ module _ (done : Done) (job : Job) (frame : Frame) (most : ℕ) (old : Intake) (
   given_are =
       let none : length h.front ≡ 0 =
       (let long = ap length h.given_is in omega (arith, long, h.count, fresh.first, length-append h.front old.round.records.items)) in
-      h.given_is ∙ ap (λ rs. rs ++ old.round.records.items) (no_items h.front none)
+      h.given_is ∙ ap (λ rs. rs ++ old.round.records.items) (nil_from_length h.front none)
 
   fed : IsFed done frame old.framer old.ending read over old.round.records.items
   fed = subst (IsFed done frame old.framer old.ending read over) given_are h.fed
@@ -72,7 +62,7 @@ module _ (done : Done) (job : Job) (frame : Frame) (most : ℕ) (old : Intake) (
   few_left = few_given done frame old.framer read over old.round.records.items old.ending fed h.can.records
 
   closed_within : old.closed ≤ length old.round.records.items
-  closed_within = let within = sum_within most (is_some old.ending) old.round.records.items h.sizes h.are in omega (arith, within, h.closed)
+  closed_within = runs.closed_within done job frame most old emits read over h
 
   so_many_shards : length old.round.shards ≡ length h.sizes
   so_many_shards = ap length h.shards ∙ length-ranges 0 old.first h.sizes
@@ -88,27 +78,25 @@ module _ (done : Done) (job : Job) (frame : Frame) (most : ℕ) (old : Intake) (
       ∙ numbered_cut old.round.first_shard old.round.records.items 0 old.first h.sizes
 
   so_many : length (all_records (shards_of old.round)) ≡ old.closed
-  so_many =
-      ap (λ l. length (all_records l)) of_round
-      ∙ length_cut most (is_some old.ending) old.round.first_shard old.first old.round.records.items h.sizes h.are ∙ sym h.closed
+  so_many = runs.so_many done job frame most old emits read over h
 
   as_many : length (shards_of old.round) ≡ length old.round.shards
-  as_many = length_numbered old.round.first_shard old.round.records.items old.round.shards
+  as_many = length-numbered old.round.first_shard old.round.records.items old.round.shards
 
   -- where the records of the round end
   abbrev pub place : ℕ
   place = get_or old.round.records.ends (old.closed - 1) 0
 
   ends_are : (rest : List ℕ) → GoesOn read over rest
-      → old.round.records.ends ≡ Rattle.sz_records.specs.Cutting.ends_in done.bytes done.records frame full rest 0 (length old.round.records.items)
+      → old.round.records.ends ≡ ends_in done.bytes done.records frame full rest 0 (length old.round.records.items)
   ends_are rest on =
       let none : length h.given - length old.round.records.items ≡ 0 = (let long = ap length given_are in omega (arith, long)) in
       h.ends rest on
-      ∙ ap (λ i. Rattle.sz_records.specs.Cutting.ends_in done.bytes done.records frame full rest i (length old.round.records.items)) none
+      ∙ ap (λ i. ends_in done.bytes done.records frame full rest i (length old.round.records.items)) none
 
   module _ (some : 0 < length old.round.shards) where
     some_closed : 0 < old.closed
-    some_closed = omega (arith, some, fewer)
+    some_closed = runs.some_closed done job frame most old emits read over h some
 
     pub leads : (rest : List ℕ) → GoesOn read over rest → place ≡ place_after frame full done.bytes done.records rest old.closed
     leads rest on =
@@ -117,7 +105,7 @@ module _ (done : Done) (job : Job) (frame : Frame) (most : ℕ) (old : Intake) (
         (omega (arith, some_closed, closed_within))
         ∙ ap (place_after frame full done.bytes done.records rest) (let same : 0 + suc (old.closed - 1) ≡ old.closed = omega (arith, some_closed) in same)
 
-    module _ (es : List EmitDatum) (n : ℕ) (is : outcome_from job old.round.passed (shards_of old.round) ≡ emitted es n) where
+    module _ {es : List EmitDatum} {n : ℕ} (is : outcome_from job old.round.passed (shards_of old.round) ≡ emitted es n) where
       abbrev pub next : Done
       next = done_with n old
 
@@ -129,7 +117,7 @@ module _ (done : Done) (job : Job) (frame : Frame) (most : ℕ) (old : Intake) (
 
       later_ends : (rest : List ℕ) → GoesOn (drop k read) over rest
           → drop old.closed old.round.records.ends
-          ≡ Rattle.sz_records.specs.Cutting.ends_in next.bytes next.records frame full rest 0 (length old.round.records.items - old.closed)
+          ≡ ends_in next.bytes next.records frame full rest 0 (length old.round.records.items - old.closed)
       later_ends rest on =
           let all : GoesOn read over (read ++ on.more) = record { more = on.more; begins = refl; ends = on.ends } in
           ends_on frame full done.bytes done.records next.bytes next.records (read ++ on.more) rest old.round.records.ends old.closed
@@ -155,7 +143,7 @@ module _ (done : Done) (job : Job) (frame : Frame) (most : ℕ) (old : Intake) (
           goes_on =
               after_nothing (outcome_from job next.passed
               (cut_into next.shards (next.records + 1) (drop old.closed old.round.records.items ++ more) all))
-              ∙ ap (λ m. Rattle.sz_rounds.specs.Outcomes.after_front [] 0 (outcome_from job next.passed
+              ∙ ap (λ m. after_front [] 0 (outcome_from job next.passed
               (cut_into next.shards m (drop old.closed old.round.records.items ++ more) all)))
               (let same : next.records + 1 ≡ old.first + old.closed = omega (arith, fresh.first, counted) in same);
         };
@@ -185,8 +173,8 @@ module _ (done : Done) (job : Job) (frame : Frame) (most : ℕ) (old : Intake) (
         count = omega (arith, counted, fresh.first);
         ends = λ rest on.
             later_ends rest on
-            ∙ ap (λ m. Rattle.sz_records.specs.Cutting.ends_in next.bytes next.records frame full rest 0 m) (sym (length-drop old.closed old.round.records.items))
-            ∙ ap (λ i. Rattle.sz_records.specs.Cutting.ends_in next.bytes next.records frame full rest i
+            ∙ ap (λ m. ends_in next.bytes next.records frame full rest 0 m) (sym (length-drop old.closed old.round.records.items))
+            ∙ ap (λ i. ends_in next.bytes next.records frame full rest i
             (length (drop old.closed old.round.records.items)))
             (let none : 0 ≡ length (drop old.closed old.round.records.items) - length (drop old.closed old.round.records.items) = omega arith in none);
         numbers = omega (arith, h.numbers, fewer);
@@ -196,7 +184,7 @@ module _ (done : Done) (job : Job) (frame : Frame) (most : ℕ) (old : Intake) (
       pub within_read : k ≤ length read
       within_read = place_within done frame old.framer read over old.round.records.items old.closed place closed_within leads old.ending fed
 
-      module _ (round : RoundEntry) (one : IsNext job old n es round) where
+      module _ {round : RoundEntry} (one : IsNext job old n es round) where
         -- its numbers, by the shards of the round
         next_shard_is : round.next_shard ≡ old.round.first_shard + length (shards_of old.round)
         next_shard_is = ap (λ (d : Done). d.shards) one.done ∙ ap (λ m. old.round.first_shard + m) (sym as_many)
@@ -319,7 +307,7 @@ module _ (done : Done) (job : Job) (frame : Frame) (most : ℕ) (old : Intake) (
   none_left known ended none rs e sizes left input on cut are is =
       let b = begins done frame old.framer read over old.round.records.items old.ending fed input on rs e cut in
       let all : rs ≡ [] =
-      b.same ∙ ap (λ l. l ++ b.more) (no_items old.round.records.items none) ∙ b.ends (ap is_some ended) in
+      b.same ∙ ap (λ l. l ++ b.more) (nil_from_length old.round.records.items none) ∙ b.ends (ap is_some ended) in
       let no_sizes = without sizes (subst (λ l. AreShards most l sizes) all are) in
       record { none = is ∙ ap (cut_into done.shards (done.records + 1) rs) no_sizes; ending = b.ending_is known ended }
     where

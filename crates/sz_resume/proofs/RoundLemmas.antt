@@ -5,7 +5,7 @@ use Rattle.sz_tabs.specs.Data.{EmitDatum}
 use Rattle.sz_total.specs.States.{TotalState, declarations, emit_count, shown}
 use Rattle.sz_total.specs.Totals.{StandsFor}
 use Rattle.sz_attempt.specs.declared.job.Job.{Job}
-use Rattle.sz_rounds.specs.Outcomes.{ShardsEnd, emitted, outcome_from, all_records}
+use Rattle.sz_rounds.specs.Outcomes.{emitted, outcome_from, all_records}
 use Rattle.sz_rounds.specs.Rounds.{EndsRound, shards_of}
 use Rattle.sz_rounds.specs.declared.round.RoundEnd.TheVariants as ends
 use Rattle.sz_rounds.proofs.CountLemmas.{few_of_shards}
@@ -19,6 +19,7 @@ use Rattle.sz_stream.specs.Intakes.{CanGoOn, done_with}
 use Rattle.sz_stream.specs.InputRuns.{HasRound}
 use Rattle.sz_stream.proofs.RunLemmas as running
 use Rattle.sz_resume.specs.Entries.{done_of}
+use Rattle.sz_resume.proofs.NumberLemmas.{product}
 
 -- ---- behind rounds
 
@@ -93,10 +94,7 @@ bound_is passed intake done run budget is begun = ap (λ n. n * budget) (counted
 
 -- the ticks of its records are a bound that can be saved
 pub low_bound : (intake : Intake) (budget : ℕ) → HasNumbers intake → budget ≤ 2 ^ 32 → intake.closed * budget ≤ 2 ^ 63
-low_bound intake budget h most = let less : intake.closed ≤ 2 ^ 31 = omega (arith, h.begun, h.within, h.few) in product intake.closed budget less most
-  where
-    product : (m b : ℕ) → m ≤ 2 ^ 31 → b ≤ 2 ^ 32 → m * b ≤ 2 ^ 63
-    product m b less most = grind arith
+low_bound intake budget h most = product intake.closed budget (omega (arith, h.begun, h.within, h.few)) most
 
 -- it fits a word
 pub bound_fits : (passed : ℕ) (intake : Intake) (done : Done) (run budget : ℕ) → done ≡ done_with passed intake → run ≡ intake.first - 1

@@ -1,7 +1,7 @@
 -- Shards that records are cut into, and those of them behind others.
 use Rattle.std.proofs.Common.{◌≡◌, ℕ, zero, suc, ◌+◌, ◌-◌, ◌≤◌, List, [], ◌∷◌, ◌++◌, length, take, drop, refl, sym, ap, ◌∙◌, subst, arith, length-append, length-drop}
 use Rattle.std.proofs.lemmas.List.{drop-drop}
-use Rattle.sz_records.specs.Shards.{AreShards, IsShard}
+use Rattle.sz_records.specs.Shards.{AreShards}
 use Rattle.sz_attempt.specs.Shards.{ShardData}
 use Rattle.sz_rounds.specs.Outcomes.{all_records}
 use Rattle.sz_rounds.specs.Cuts.{cut_into}

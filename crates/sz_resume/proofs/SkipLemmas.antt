@@ -1,6 +1,6 @@
 -- Bytes of a file that are dropped, piece by piece.
-use Rattle.std.proofs.Common.{◌≡◌, ℕ, ◌+◌, ◌-◌, ◌≤◌, List, [], ◌++◌, length, Option, arith, length-append}
-use Rattle.std.proofs.KnownBytes.{Consumes-nil, Consumes-trans}
+use Rattle.std.proofs.Common.{◌≡◌, ℕ, ◌+◌, ◌-◌, ◌≤◌, List, ◌++◌, length, Option, arith, length-append}
+use Rattle.std.proofs.KnownBytes.{Consumes-trans}
 use Rattle.std.specs.Io.KnownBytes.{Consumes}
 
 -- of so many bytes all but those that are left were dropped
@@ -8,10 +8,6 @@ pub record HasDropped (before after : Option (List ℕ)) (bytes left : ℕ) : Ty
   pub dropped : List ℕ
   pub consumed : Consumes before after dropped
   pub counted : length dropped + left ≡ bytes
-
--- before anything is read
-pub drops_none : (start : Option (List ℕ)) (bytes : ℕ) → HasDropped start start bytes bytes
-drops_none start bytes = record { dropped = []; consumed = Consumes-nil start; counted = omega arith }
 
 -- a piece more
 pub drops_more : (start before after : Option (List ℕ)) (bytes left count : ℕ) (piece : List ℕ) → HasDropped start before bytes left

@@ -1,6 +1,7 @@
 -- What the rounds of a journal stand for, from round to round.
-use Rattle.std.proofs.Common.{◌≡◌, ℕ, zero, suc, ◌+◌, ◌-◌, ◌*◌, ◌≤◌, List, [], ◌∷◌, ◌++◌, length, drop, refl, sym, ap, ◌∙◌, subst, arith, length-drop}
+use Rattle.std.proofs.Common.{◌≡◌, ℕ, ◌+◌, ◌-◌, ◌*◌, ◌≤◌, List, [], ◌∷◌, ◌++◌, length, drop, refl, sym, ap, ◌∙◌, subst, arith, length-drop}
 use Rattle.std.proofs.lemmas.List.{drop-drop}
+use Rattle.std.proofs.lemmas.List.Sums.{sum_by-cons}
 use Rattle.sz_types.specs.Tables.{Declaration}
 use Rattle.sz_mean.specs.Marked.{all_tables}
 use Rattle.sz_tabs.specs.Data.{EmitDatum}
@@ -10,16 +11,16 @@ use Rattle.sz_records.specs.Shards.{AreShards}
 use Rattle.sz_records.proofs.CutLemmas.{place_now}
 use Rattle.sz_attempt.specs.declared.job.Job.{Job}
 use Rattle.sz_attempt.specs.Shards.{ShardData}
-use Rattle.sz_rounds.specs.Outcomes.{ShardsEnd, emitted, after_front, then_outcome, outcome_from, all_records}
+use Rattle.sz_rounds.specs.Outcomes.{after_front, then_outcome, outcome_from, all_records}
 use Rattle.sz_rounds.specs.Cuts.{cut_into}
 use Rattle.sz_rounds.proofs.OutcomeLemmas.{after_nothing, later_both, outcome-append}
 use Rattle.sz_journal_format.specs.declared.progress.Progress.{Progress}
 use Rattle.sz_journal_format.specs.declared.round.RoundEntry.{RoundEntry}
-use Rattle.sz_journal_format.specs.Rounds.{no_progress, progress_of, progress_after}
+use Rattle.sz_journal_format.specs.Rounds.{no_progress, progress_of, progress_after, all_bounds}
 use Rattle.sz_stream.specs.Inputs.{full}
 use Rattle.sz_resume.specs.Standing.{Source, place_in, IsRoundOf, AreRoundsOf}
 use Rattle.sz_resume.specs.Entries.{AreSavedOf, all_parts}
-use Rattle.sz_resume.proofs.ShardLemmas.{AreBehind, are_behind}
+use Rattle.sz_resume.proofs.ShardLemmas.{are_behind}
 
 module _ (job : Job) (source : Source) where
   -- so far has the job come, and these are the shards behind
@@ -66,6 +67,38 @@ module _ (job : Job) (source : Source) where
     rounds_on progress shards left [] at are = subst (IsAt records sizes progress) are at
     rounds_on progress shards left (round ∷ rounds) at are =
         rounds_on (progress_of round) are.1 left rounds (round_on progress are.0 are.1 round (subst (IsAt records sizes progress) are.2 at) are.3) are.4
+
+  -- the bounds of rounds are the ticks of their records
+  pub bounds_on : (progress : Progress) (shards left : List ShardData) (rounds : List RoundEntry) → AreRoundsOf job source progress shards rounds left
+      → all_bounds rounds + progress.records * job.budget ≡ (progress_after progress rounds).records * job.budget
+  bounds_on progress shards left [] are = omega arith
+  bounds_on progress shards left (round ∷ rounds) are =
+      let one = are.3 in
+      let rest = bounds_on (progress_of round) are.1 left rounds are.4 in
+      let here = both (length (all_records are.0)) progress.records job.budget
+      ∙ ap (λ n. n * job.budget) (let all : length (all_records are.0) + progress.records ≡ round.records = omega (arith, one.records) in all) in
+      let sum = sum_by-cons (λ (round : RoundEntry). round.saved.bound) round rounds in
+      let bound = ap (λ (s : SavedState). s.bound) one.saved in
+      omega (arith, rest, here, sum, bound)
+    where
+      both : (a b n : ℕ) → a * n + b * n ≡ (a + b) * n
+      both a b n = grind arith
+
+  -- where no shard is left, the rounds have all records
+  pub all_bounded : (records : List (List ℕ)) (sizes : List ℕ) (left : List ShardData) (rounds : List RoundEntry) → AreShards source.most records sizes
+      → AreRoundsOf job source no_progress (cut_into 0 1 records sizes) rounds left → left ≡ [] → all_bounds rounds ≡ length records * job.budget
+  all_bounded records sizes left rounds shards are none =
+      let at = rounds_on records sizes no_progress (cut_into 0 1 records sizes) left rounds (at_start records sizes shards) are in
+      let now = progress_after no_progress rounds in
+      let no_more = no_records now.shards (now.records + 1) (drop now.records records) (drop now.shards sizes) at.are (sym none ∙ at.is) in
+      let all : now.records ≡ length records = (let long = ap length no_more in omega (arith, long, at.few, length-drop now.records records)) in
+      let sum = bounds_on no_progress (cut_into 0 1 records sizes) left rounds are in
+      let none_before : all_bounds rounds ≡ all_bounds rounds + 0 * job.budget = omega arith in
+      none_before ∙ sum ∙ ap (λ n. n * job.budget) all
+    where
+      no_records : (number first : ℕ) (rs : List (List ℕ)) (ns : List ℕ) → AreShards source.most rs ns → [] ≡ cut_into number first rs ns → rs ≡ []
+      no_records number first rs [] are is = are
+      no_records number first rs (n ∷ ns) are is = absurd cc
 
   -- one round more
   pub one_more : (progress : Progress) (shards left front back : List ShardData) (rounds : List RoundEntry) (round : RoundEntry)

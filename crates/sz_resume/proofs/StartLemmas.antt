@@ -1,23 +1,22 @@
 -- A job that is resumed, up to where its rounds end.
-use Rattle.std.proofs.Common.{◌≡◌, ◌⊎◌, inl, inr, ℕ, ◌+◌, ◌<◌, ◌≤◌, Bool, true, false, List, [], ◌∷◌, ◌++◌, length, drop, Option, Some, None, IfSome}
+use Rattle.std.proofs.Common.{◌≡◌, inl, inr, ℕ, ◌+◌, ◌<◌, ◌≤◌, Bool, true, false, List, [], ◌∷◌, ◌++◌, length, drop, Option, Some, None, IfSome}
 use Rattle.std.proofs.Common.{refl, sym, ap, ◌∙◌, subst, arith, append-nil, length-append}
 use Rattle.std.specs.Prelude.{Result, Ok, Err}
-use Rattle.std.specs.Io.KnownBytes.{Consumes, IsAtEnd}
-use Rattle.sz_types.specs.Tables.{Declaration}
 use Rattle.sz_mean.specs.Marked.{all_tables}
 use Rattle.sz_save_format.specs.Saved.{SavedState}
 use Rattle.sz_attempt.specs.declared.job.Job.{Job}
 use Rattle.sz_journal_format.specs.declared.job.JobBytes.{JobBytes}
 use Rattle.sz_journal_format.specs.declared.round.RoundEntry.{RoundEntry}
-use Rattle.sz_journal_format.specs.Rounds.{last_progress, AreRounds}
+use Rattle.sz_journal_format.specs.Rounds.{last_progress}
 use Rattle.sz_journal.specs.declared.journal.Journal.{Journal}
-use Rattle.sz_journal.specs.Journal.{rounds_of, last_gate}
+use Rattle.sz_journal.specs.Journal.{rounds_of}
+use Rattle.sz_stream.specs.declared.done.Done.{Done}
 use Rattle.sz_stream.specs.declared.stop.Stop.TheVariants as stops
 use Rattle.sz_resume.specs.declared.halt.Halt.{Halt}
 use Rattle.sz_resume.specs.declared.halt.Halt.TheVariants as halts
-use Rattle.sz_resume.specs.Halts.{no_memory, read_failed}
 use Rattle.sz_resume.specs.Standing.{Source, Stands, IsFound}
-use Rattle.sz_resume.specs.Runs.{IsJournalOf, HasJournal, Skips, RunsSource, TellsShort}
+use Rattle.sz_resume.specs.Entries.{done_of}
+use Rattle.sz_resume.specs.Runs.{IsJournalOf, Skips, TellsShort}
 use Rattle.sz_resume.proofs.LeaveLemmas.{not_empty}
 use Rattle.sz_resume.proofs.WayLemmas.{spelled_at}
 
@@ -52,25 +51,27 @@ too_short (Some s) (Some l) bytes input skips is =
     let long = ap length (sym same ∙ skips.consumed ∙ ap (λ b. skips.dropped ++ b) short.1 ∙ append-nil skips.dropped) in
     omega (arith, long, short.0)
 
--- the same by the test
-pub behind_dropped : (before after : Option (List ℕ)) (bytes : ℕ) (all : Bool) (input : List ℕ) (place : ℕ) → Skips before after bytes all
-    → all ≡ true → before ≡ Some input → bytes ≡ place → after ≡ Some (drop place input)
-behind_dropped before after bytes true input place skips test is same =
-    left_then before after bytes input skips is ∙ ap (λ n. Some (drop n input)) same
-behind_dropped before after bytes false input place skips test is same = absurd (cc)
+-- the same where the bytes of rounds were all dropped
+module _ {before after : Option (List ℕ)} {done : Done} {all : Bool} {now rounds : List RoundEntry} {input : List ℕ} (skips : Skips before after done.bytes all)
+    (test : all ≡ true) (done_is : done ≡ done_of (last_progress now)) (rounds_are : now ≡ rounds) (is : before ≡ Some input) where
+  place_is : done.bytes ≡ (last_progress rounds).bytes
+  place_is = ap (λ (d : Done). d.bytes) done_is ∙ ap (λ rs. (last_progress rs).bytes) rounds_are
 
-pub long_input : (before after : Option (List ℕ)) (bytes : ℕ) (all : Bool) (input : List ℕ) (place : ℕ) → Skips before after bytes all
-    → all ≡ true → before ≡ Some input → bytes ≡ place → place ≤ length input
-long_input before after bytes true input place skips test is same =
-    let long = long_enough before after bytes input skips is in omega (arith, long, same)
-long_input before after bytes false input place skips test is same = absurd (cc)
+  all_dropped : Skips before after done.bytes true
+  all_dropped = subst (Skips before after done.bytes) test skips
+
+  pub behind_dropped : after ≡ Some (drop (last_progress rounds).bytes input)
+  behind_dropped = left_then before after done.bytes input all_dropped is ∙ ap (λ n. Some (drop n input)) place_is
+
+  pub long_input : (last_progress rounds).bytes ≤ length input
+  long_input = let long = long_enough before after done.bytes input all_dropped is in omega (arith, long, place_is)
 
 -- the journal that is found has the job's entry
-pub found_is : (name : JobBytes) (job : Job) (source : Source) (journal : Journal) (bytes : Option (List ℕ)) (held : List ℕ) → bytes ≡ Some held
+pub found_is : {name : JobBytes} {job : Job} {source : Source} {journal : Journal} {bytes : Option (List ℕ)} {held : List ℕ} → bytes ≡ Some held
     → IsJournalOf name job journal bytes → IsFound name job source held (rounds_of journal) → Stands name job source held (rounds_of journal)
-found_is name job source journal bytes held told j (inl none) =
-    absurd (not_empty name (all_tables job.compiled) held (rounds_of journal) (spelled_at name job journal bytes held told j) none.0)
-found_is name job source journal bytes held told j (inr stands) = stands
+found_is {name = name} {job = job} {journal = journal} {held = held} told j (inl none) =
+    absurd (not_empty name (all_tables job.compiled) held (rounds_of journal) (spelled_at told j) none.0)
+found_is told j (inr stands) = stands
 
 -- what an answer says of the input's length
 pub tells_all : (journal : Journal) (left : Option (List ℕ)) (answer : Result SavedState Halt)

@@ -1,16 +1,14 @@
 -- What is known between two rounds, from round to round.
-use Rattle.std.proofs.Common.{◌≡◌, ◌⊎◌, inl, inr, ℕ, zero, suc, ◌+◌, ◌-◌, ◌<◌, ◌≤◌, List, [], ◌∷◌, ◌++◌, length, drop, Bool, true, false, Option, Some, None}
+use Rattle.std.proofs.Common.{◌≡◌, inl, inr, ℕ, ◌+◌, ◌-◌, ◌*◌, ◌<◌, ◌≤◌, List, [], ◌∷◌, ◌++◌, length, drop, Bool, true, Option, Some, None}
 use Rattle.std.proofs.Common.{refl, sym, ap, ◌∙◌, subst, arith, append-nil}
-use Rattle.std.proofs.lemmas.Bool.{eqb-true}
 use Rattle.std.proofs.lemmas.List.{drop-drop, drop-append-le}
-use Rattle.std.specs.Prelude.{is_some, ◌==◌, Result, Ok, Err, if◌then◌else◌}
+use Rattle.std.specs.Prelude.{Result, Ok, Err}
 use Rattle.std.specs.Io.KnownBytes.{Consumes, IsAtEnd}
 use Rattle.sz_types.specs.declared.frame.Frame.{Frame}
 use Rattle.sz_mean.specs.Marked.{all_tables}
 use Rattle.sz_tabs.specs.Data.{EmitDatum}
 use Rattle.sz_save_format.specs.Saved.{SavedState}
 use Rattle.sz_records.specs.declared.ending.Ending.{Ending}
-use Rattle.sz_records.specs.declared.ending.Ending.TheVariants as endings
 use Rattle.sz_records.specs.Cutting.{IsCut}
 use Rattle.sz_records.specs.Behind.{IsCutBehind}
 use Rattle.sz_records.specs.Shards.{AreShards}
@@ -26,29 +24,28 @@ use Rattle.sz_rounds.specs.Cuts.{cut_into}
 use Rattle.sz_rounds.proofs.OutcomeLemmas.{outcome-append}
 use Rattle.sz_disk.specs.Crashes.{Images}
 use Rattle.sz_gates.specs.Crashing.{Rests}
-use Rattle.sz_gates.specs.Entries.{IsEmpty}
 use Rattle.sz_journal_format.specs.declared.job.JobBytes.{JobBytes}
 use Rattle.sz_journal_format.specs.declared.progress.Progress.{Progress}
 use Rattle.sz_journal_format.specs.declared.round.RoundEntry.{RoundEntry}
-use Rattle.sz_journal_format.specs.Rounds.{no_progress, progress_of, progress_after, last_progress, all_bounds}
+use Rattle.sz_journal_format.specs.Rounds.{no_progress, progress_of, last_progress, all_bounds}
 use Rattle.sz_journal_rules.specs.Journals.{Spells}
 use Rattle.sz_journal.specs.declared.journal.Journal.{Journal}
 use Rattle.sz_stream.specs.declared.done.Done.{Done}
 use Rattle.sz_stream.specs.declared.intake.Intake.{Intake}
-use Rattle.sz_stream.specs.declared.stop.Stop.{Stop}
 use Rattle.sz_stream.specs.declared.stop.Stop.TheVariants as stops
-use Rattle.sz_stream.specs.Inputs.{full, GoesOn, GivesAll}
-use Rattle.sz_stream.specs.Intakes.{moved_on, done_with, end_of}
-use Rattle.sz_stream.specs.InputRuns.{IsRunning, Reaches, IsReady, StopsShards}
+use Rattle.sz_stream.specs.Inputs.{full, GoesOn}
+use Rattle.sz_stream.specs.Intakes.{moved_on, done_with}
+use Rattle.sz_stream.specs.InputRuns.{IsRunning}
 use Rattle.sz_resume.specs.declared.halt.Halt.{Halt}
 use Rattle.sz_resume.specs.declared.halt.Halt.TheVariants as halts
-use Rattle.sz_resume.specs.Standing.{Source, place_in, AreRoundsOf, StandsFor, Stands, IsFound}
-use Rattle.sz_resume.specs.Stops.{AreSmall, HoldsAll}
+use Rattle.sz_save.specs.Saving.{state_of_emits}
+use Rattle.sz_resume.specs.Standing.{Source, AreRoundsOf, Stands, IsFound}
+use Rattle.sz_resume.specs.Stops.{HoldsAll}
 use Rattle.sz_resume.specs.Runs.{EndsJob, RunsSource}
-use Rattle.sz_resume.specs.Entries.{done_of, IsNext, all_parts, HoldsRounds}
-use Rattle.sz_resume.specs.Turns.{AllStand, IsFresh, IsBehind, HasNext, rest_from, AddsRound, StopsHalt, EndsSo}
+use Rattle.sz_resume.specs.Entries.{done_of, IsNext, all_parts, AreSavedOf}
+use Rattle.sz_resume.specs.Turns.{AllStand, IsFresh, IsBehind, rest_from, StopsHalt, EndsSo}
 use Rattle.sz_resume.proofs.NumberLemmas.{progress-append}
-use Rattle.sz_resume.proofs.StandLemmas.{IsAt, at_start, rounds_on, one_more, gives}
+use Rattle.sz_resume.proofs.StandLemmas.{IsAt, at_start, rounds_on, all_bounded, one_more, gives}
 use Rattle.sz_resume.proofs.NextLemmas.{BeginsWith, IsOver, left_begins, none_left, starts_anew, within_read, place_on, done_is, is_round_of, so_many_more}
 
 -- ---- bytes that are left
@@ -117,11 +114,11 @@ module _ (job : Job) (source : Source) where
         subst (IsCutBehind source.frame full source.bytes records ending P.records) (sym at.place)
         (the_rest_is_cut_so source.frame full source.bytes records ending P.records cut at.few)
 
-    module _ (intake : Intake) (emits : List EmitDatum) (read : List ℕ) (over : Bool)
+    module _ {intake : Intake} {emits : List EmitDatum} {read : List ℕ} {over : Bool}
         (fresh : IsFresh (done_of P) job source.frame source.most intake emits read over) (on : GoesOn read over (drop P.bytes source.bytes)) where
-      begun : BeginsWith (done_of P) job source.frame source.most intake emits read over fresh left_of
+      begun : BeginsWith fresh left_of
       begun =
-          left_begins (done_of P) job source.frame source.most intake emits read over fresh (drop P.records records) ending (drop P.shards sizes) left_of
+          left_begins fresh (drop P.records records) ending (drop P.shards sizes) left_of
           (drop P.bytes source.bytes) on behind.rest at.are at.is
 
       -- one round more
@@ -131,7 +128,7 @@ module _ (job : Job) (source : Source) where
       stand_more some es n is round next = (
         begun.back,
         one_more job source no_progress (cut_into 0 1 records sizes) left_of (shards_of intake.round) begun.back rounds round rounds_are begun.is
-            (is_round_of (done_of P) job source.frame source.most intake emits read over fresh some es n is round next source P refl refl on behind.later),
+            (is_round_of fresh some is next source P refl refl on behind.later),
       )
 
       -- a shard of the round decides
@@ -139,7 +136,7 @@ module _ (job : Job) (source : Source) where
           → outcome_from job intake.round.passed (shards_of intake.round) ≡ o → outcome_of job (cut_into 0 1 records sizes) ≡ o
       decides o stays is =
           let g = gives job source no_progress (cut_into 0 1 records sizes) left_of rounds rounds_are in
-          let p : intake.round.passed ≡ P.passed = so_many_more (done_of P) job source.frame source.most intake emits read over fresh in
+          let p : intake.round.passed ≡ P.passed = so_many_more fresh in
           g.goes_on ∙ ap (λ l. after_front (all_parts g.parts) g.passed (outcome_from job P.passed l)) begun.is
           ∙ ap (after_front (all_parts g.parts) g.passed) (outcome-append job P.passed (shards_of intake.round) begun.back)
           ∙ ap (λ e. after_front (all_parts g.parts) g.passed (then_outcome e (λ m. outcome_from job (P.passed + m) begun.back)))
@@ -148,13 +145,13 @@ module _ (job : Job) (source : Source) where
 
       -- no shard is left
       pub over_then : (known : Ending) → intake.ending ≡ Some known → length intake.round.records.items ≡ 0
-          → IsOver (done_of P) job source.frame source.most intake emits read over fresh known ending left_of
+          → IsOver fresh known ending left_of
       over_then known ended none =
-          none_left (done_of P) job source.frame source.most intake emits read over fresh known ended none (drop P.records records) ending
+          none_left fresh known ended none (drop P.records records) ending
           (drop P.shards sizes) left_of (drop P.bytes source.bytes) on behind.rest at.are at.is
 
     -- what all rounds give, where no shard is left
-    pub all_given : left_of ≡ [] → (parts : List (List EmitDatum)) × Rattle.sz_resume.specs.Entries.AreSavedOf (all_tables job.compiled) rounds parts
+    pub all_given : left_of ≡ [] → (parts : List (List EmitDatum)) × AreSavedOf (all_tables job.compiled) rounds parts
         × (passed : ℕ) × (outcome_of job (cut_into 0 1 records sizes) ≡ emitted (all_parts parts) passed)
     all_given none =
         let g = gives job source no_progress (cut_into 0 1 records sizes) left_of rounds rounds_are in (
@@ -167,15 +164,15 @@ module _ (job : Job) (source : Source) where
 
   -- ---- answers
 
-  module _ (journal : Journal) (rounds : List RoundEntry) (all : AllStand job source rounds) (intake : Intake) (emits : List EmitDatum) (read : List ℕ)
-      (over : Bool) (fresh : IsFresh (done_of (last_progress rounds)) job source.frame source.most intake emits read over)
+  module _ (journal : Journal) (rounds : List RoundEntry) (all : AllStand job source rounds) {intake : Intake} {emits : List EmitDatum} {read : List ℕ}
+      {over : Bool} (fresh : IsFresh (done_of (last_progress rounds)) job source.frame source.most intake emits read over)
       (on : GoesOn read over (drop (last_progress rounds).bytes source.bytes)) where
     -- a shard of the round decides, or there was no memory
     pub halts_source : (halt : Halt) → StopsHalt (outcome_from job intake.round.passed (shards_of intake.round)) halt → RunsSource job journal source (Err halt)
     halts_source (halts.Stopped (stops.Fault n f)) is records ending sizes cut are =
-        decides rounds all records ending sizes cut are intake emits read over fresh on (faulted n (seen_fault f)) (λ front k rest. refl) is
+        decides rounds all records ending sizes cut are fresh on (faulted n (seen_fault f)) (λ front k rest. refl) is
     halts_source (halts.Stopped (stops.Lost n)) is records ending sizes cut are =
-        decides rounds all records ending sizes cut are intake emits read over fresh on (lost n) (λ front k rest. refl) is
+        decides rounds all records ending sizes cut are fresh on (lost n) (λ front k rest. refl) is
     halts_source (halts.Stopped (stops.Damaged n)) is records ending sizes cut are = absurd is
     halts_source (halts.Stopped (stops.Limit n)) is records ending sizes cut are = absurd is
     halts_source (halts.Stopped stops.ReadFailed) is records ending sizes cut are = tt
@@ -187,18 +184,26 @@ module _ (job : Job) (source : Source) where
     pub ends_source : (known : Ending) → intake.ending ≡ Some known → length intake.round.records.items ≡ 0 → (answer : Result SavedState Halt)
         → EndsSo (all_tables job.compiled) rounds known answer → RunsSource job journal source answer
     ends_source known ended none answer so records ending sizes cut are =
-        let o = over_then rounds all records ending sizes cut are intake emits read over fresh on known ended none in
+        let o = over_then rounds all records ending sizes cut are fresh on known ended none in
         let g = all_given rounds all records ending sizes cut are o.none in
         by answer so o.ending g.0 g.1 g.2 g.3
       where
-        outcome : ShardsEnd
-        outcome = outcome_of job (cut_into 0 1 records sizes)
+        bounds : all_bounds rounds ≡ length records * job.budget
+        bounds =
+            let o = over_then rounds all records ending sizes cut are fresh on known ended none in
+            all_bounded job source records sizes (left_of rounds all records ending sizes cut are) rounds are
+            (rounds_are rounds all records ending sizes cut are) o.none
 
         by : (answer : Result SavedState Halt) → EndsSo (all_tables job.compiled) rounds known answer → ending ≡ known → (parts : List (List EmitDatum))
-            → Rattle.sz_resume.specs.Entries.AreSavedOf (all_tables job.compiled) rounds parts → (passed : ℕ) → outcome_of job (cut_into 0 1 records sizes) ≡ emitted (all_parts parts) passed
-            → EndsJob job journal (length source.bytes) ending (outcome_of job (cut_into 0 1 records sizes)) answer
-        by (Ok tables) so same parts saved passed gives =
-            (all_parts parts, passed, same ∙ so.0, gives, record { bound = all_bounds rounds; is = so.1 parts saved })
+            → AreSavedOf (all_tables job.compiled) rounds parts → (passed : ℕ) → outcome_of job (cut_into 0 1 records sizes) ≡ emitted (all_parts parts) passed
+            → EndsJob job journal (length source.bytes) (length records) ending (outcome_of job (cut_into 0 1 records sizes)) answer
+        by (Ok tables) so same parts saved passed gives = (
+          all_parts parts,
+          passed,
+          same ∙ so.0,
+          gives,
+          so.1 parts saved ∙ ap (λ n. state_of_emits n (all_tables job.compiled) (all_parts parts)) bounds,
+        )
         by (Err (halts.Stopped (stops.Fault n f))) so same parts saved passed gives = absurd so
         by (Err (halts.Stopped (stops.Lost n))) so same parts saved passed gives = absurd so
         by (Err (halts.Stopped (stops.Damaged n))) so same parts saved passed gives = (same ∙ so, (all_parts parts, passed, gives))
@@ -214,7 +219,7 @@ module _ (job : Job) (source : Source) where
         → Spells name (all_tables job.compiled) now rounds → HoldsAll bytes may_leave name job source rounds
     holds_all known ended none name held now before stands bytes may_leave rests spells =
         let s = stands.1 in
-        let o = over_then rounds all s.records s.ending s.sizes s.cut s.shards intake emits read over fresh on known ended none in
+        let o = over_then rounds all s.records s.ending s.sizes s.cut s.shards fresh on known ended none in
         record {
           held = now;
           rests = rests;
@@ -231,7 +236,7 @@ module _ (job : Job) (source : Source) where
 
 -- ---- from round to round
 
-module _ (job : Job) (frame : Frame) (most : ℕ) (rounds : List RoundEntry) (intake : Intake) (start left : Option (List ℕ)) where
+module _ {job : Job} {frame : Frame} {most : ℕ} {rounds : List RoundEntry} {intake : Intake} {start left : Option (List ℕ)} where
   pub fresh_of : (b : IsBehind job frame most rounds intake start left)
       → IsFresh (done_of (last_progress rounds)) job frame most intake b.emits b.reached.read b.reached.over
   fresh_of b = record { running = b.reached.running; first = b.first; number = b.number }
@@ -249,14 +254,14 @@ module _ (job : Job) (rounds all : List RoundEntry) (old : Intake) (es : List Em
   pub goes_behind : (some : 0 < length old.round.shards) (frame : Frame) (most : ℕ) (start left : Option (List ℕ)) → IsBehind job frame most rounds old start left
       → IsBehind job frame most all (moved_on n old) (rest_from (round.next_byte - (last_progress rounds).bytes) start) left
   goes_behind some frame most start left b =
-      let f = fresh_of job frame most rounds old start left b in
+      let f = fresh_of b in
       let P = last_progress rounds in
-      let anew = starts_anew (done_of P) job frame most old b.emits b.reached.read b.reached.over f some es n is in
+      let anew = starts_anew f some is in
       let done : done_of (last_progress all) ≡ done_with n old =
-      ap done_of last_is ∙ done_is (done_of P) job frame most old b.emits b.reached.read b.reached.over f some es n is round next in
+      ap done_of last_is ∙ done_is f some is next in
       let k = round.next_byte - P.bytes in
-      let same = place_on (done_of P) job frame most old b.emits b.reached.read b.reached.over f some es n is round next in
-      let within = within_read (done_of P) job frame most old b.emits b.reached.read b.reached.over f some es n is in
+      let same = place_on f some is next in
+      let within = within_read f some is in
       record {
         emits = [];
         reached = record {

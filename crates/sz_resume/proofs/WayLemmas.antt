@@ -1,34 +1,31 @@
 -- The loop over the rounds of a job that is resumed.
-use Rattle.std.proofs.Common.{◌≡◌, ◌⊎◌, inl, inr, ℕ, zero, suc, ◌+◌, ◌-◌, ◌^◌, ◌<◌, ◌≤◌, Bool, true, false, List, [], ◌∷◌, ◌++◌, length, drop, Option, Some, None, IfSome}
-use Rattle.std.proofs.Common.{refl, sym, ap, ◌∙◌, subst, arith, append-nil, append_assoc}
+use Rattle.std.proofs.Common.{◌≡◌, ℕ, zero, suc, ◌+◌, ◌-◌, ◌^◌, ◌<◌, ◌≤◌, Bool, true, false, List, [], ◌∷◌, ◌++◌, length, drop, Option, Some, None, IfSome}
+use Rattle.std.proofs.Common.{refl, sym, ap, ◌∙◌, subst, arith}
 use Rattle.std.proofs.KnownBytes.{Consumes-nil}
 use Rattle.std.proofs.lemmas.Bool.{eqb-true}
-use Rattle.std.specs.Prelude.{is_some, ◌==◌, IsSome, Result, Ok, Err, OnOk, IsErrOf, if◌then◌else◌}
+use Rattle.std.specs.Prelude.{is_some, ◌==◌, IsSome, Result, Ok, Err, OnOk, if◌then◌else◌}
 use Rattle.std.specs.Io.KnownBytes.{Consumes, IsAtEnd}
 use Rattle.sz_types.specs.declared.frame.Frame.{Frame}
 use Rattle.sz_types.specs.Tables.{Declaration}
 use Rattle.sz_mean.specs.Marked.{all_tables}
-use Rattle.sz_tabs.specs.Data.{EmitDatum}
 use Rattle.sz_save_format.specs.Saved.{SavedState}
 use Rattle.sz_records.specs.declared.ending.Ending.{Ending}
 use Rattle.sz_records.specs.declared.ending.Ending.TheVariants as endings
 use Rattle.sz_io.specs.declared.error.OutsideError.{OutsideError}
 use Rattle.sz_io.specs.declared.error.OutsideError.TheVariants as outside
-use Rattle.sz_disk.specs.Crashes.{Images, are_told}
+use Rattle.sz_disk.specs.Crashes.{Images}
 use Rattle.sz_gates.specs.Crashing.{Rests}
 use Rattle.sz_attempt.specs.declared.job.Job.{Job}
 use Rattle.sz_rounds.specs.declared.round.Round.{Round}
 use Rattle.sz_journal_format.specs.declared.job.JobBytes.{JobBytes}
 use Rattle.sz_journal_format.specs.declared.progress.Progress.{Progress}
 use Rattle.sz_journal_format.specs.declared.round.RoundEntry.{RoundEntry}
-use Rattle.sz_journal_format.specs.Rounds.{no_progress, progress_of, last_progress}
+use Rattle.sz_journal_format.specs.Rounds.{no_progress, last_progress}
 use Rattle.sz_journal_rules.specs.Journals.{Spells}
 use Rattle.sz_journal.specs.declared.journal.Journal.{Journal}
 use Rattle.sz_journal.specs.Journal.{rounds_of, KeepsRounds}
 use Rattle.sz_stream.specs.declared.done.Done.{Done}
 use Rattle.sz_stream.specs.declared.intake.Intake.{Intake}
-use Rattle.sz_stream.specs.declared.stop.Stop.TheVariants as stops
-use Rattle.sz_stream.specs.Inputs.{GoesOn}
 use Rattle.sz_stream.specs.Intakes.{CanGoOn, IsFed, IsEmpty, end_of}
 use Rattle.sz_stream.specs.InputRuns.{Reaches, CanRead, Fills, IsReady}
 use Rattle.sz_stream.proofs.RunLemmas.{starts, few_left}
@@ -42,7 +39,7 @@ use Rattle.sz_resume.specs.Entries.{done_of}
 use Rattle.sz_resume.specs.Turns.{AllStand, IsBehind, HasNext, rest_from, AddsRound, StopsHalt, EndsSo}
 use Rattle.sz_resume.proofs.NumberLemmas.{progress-append}
 use Rattle.sz_resume.proofs.LeaveLemmas.{not_empty, leaves_rounds}
-use Rattle.sz_resume.proofs.TurnLemmas.{rest_twice, fresh_of, goes_on_behind, found_stands, stands_more, halts_source, ends_source, holds_all}
+use Rattle.sz_resume.proofs.TurnLemmas.{rest_twice, fresh_of, goes_on_behind, halts_source, ends_source, holds_all}
 
 rest_all : (k : ℕ) (left : Option (List ℕ)) → rest_from (k - k) left ≡ left
 rest_all k None = refl
@@ -64,7 +61,7 @@ told_before : (k : ℕ) (first left : Option (List ℕ)) → IfSome (rest_from k
 told_before k None left h = tt
 told_before k (Some s) left h = h
 
-module _ (job : Job) (frame : Frame) (most : ℕ) where
+module _ {job : Job} {frame : Frame} {most : ℕ} where
   -- before anything is read
   pub way_starts : (rounds : List RoundEntry) (done : Done) (intake : Intake) (left : Option (List ℕ)) → 1 ≤ most → done ≡ done_of (last_progress rounds)
       → CanGoOn done → done.passed ≤ job.skip → IsEmpty frame most done intake
@@ -83,7 +80,7 @@ module _ (job : Job) (frame : Frame) (most : ℕ) where
         number = ap (λ (r : Round). r.first_shard) empty.round ∙ ap (λ (d : Done). d.shards) is;
       })
 
-  module _ (rounds : List RoundEntry) (old : Intake) (start left : Option (List ℕ)) (b : IsBehind job frame most rounds old start left) where
+  module _ {rounds : List RoundEntry} {old : Intake} {start left : Option (List ℕ)} (b : IsBehind job frame most rounds old start left) where
     pub can_read : CanRead old
     can_read = record {
       done = done_of (last_progress rounds);
@@ -118,7 +115,7 @@ module _ (job : Job) (frame : Frame) (most : ℕ) where
       emits = b.emits;
       read = b.reached.read;
       over = b.reached.over;
-      fresh = fresh_of job frame most rounds old start left b;
+      fresh = fresh_of b;
       some = by (length old.round.shards) refl is;
     }
       where
@@ -126,7 +123,7 @@ module _ (job : Job) (frame : Frame) (most : ℕ) where
         by zero none known = absurd (let e = (ready none).0 in let clash = sym (ap is_some known) ∙ e in cc)
         by (suc n) some known = omega (arith, some)
 
-    module _ (ready : IsReady old) (e : Ending) (is : end_of old ≡ Some e) where
+    module _ (ready : IsReady old) {e : Ending} (is : end_of old ≡ Some e) where
       none_left : (shards : ℕ) → (if shards == 0 then old.ending else None) ≡ Some e → shards ≡ 0
       none_left shards known = by (shards == 0) refl known
         where
@@ -159,15 +156,15 @@ module _ (job : Job) (frame : Frame) (most : ℕ) where
         pub way_ends : (journal : Journal) → AllStand job source rounds → (answer : Result SavedState Halt)
             → EndsSo (all_tables job.compiled) rounds e answer → RunsSource job journal source answer
         way_ends journal all answer so =
-            ends_source job source journal rounds all old b.emits b.reached.read b.reached.over (fresh_of job frame most rounds old start left b)
-            (goes_on_behind job frame most rounds old start left b (drop (last_progress rounds).bytes input) told) e ending_is no_items answer so
+            ends_source job source journal rounds all (fresh_of b) (goes_on_behind b (drop (last_progress rounds).bytes input) told) e ending_is no_items
+            answer so
 
         pub way_holds : (journal : Journal) → AllStand job source rounds → (name : JobBytes) (held : List ℕ) (before : List RoundEntry)
             → Stands name job source held before → (bytes : Option (List ℕ)) (may_leave : Images)
             → KeepsRounds bytes may_leave name (all_tables job.compiled) rounds → HoldsAll bytes may_leave name job source rounds
         way_holds journal all name held before stands bytes may_leave keeps =
-            holds_all job source journal rounds all old b.emits b.reached.read b.reached.over (fresh_of job frame most rounds old start left b)
-            (goes_on_behind job frame most rounds old start left b (drop (last_progress rounds).bytes input) told) e ending_is no_items name held keeps.held
+            holds_all job source journal rounds all (fresh_of b) (goes_on_behind b (drop (last_progress rounds).bytes input) told) e ending_is no_items name
+            held keeps.held
             before stands bytes may_leave keeps.rests keeps.spells
 
     pub way_halts : (input : List ℕ) → start ≡ Some (drop (last_progress rounds).bytes input) → (journal : Journal)
@@ -175,16 +172,15 @@ module _ (job : Job) (frame : Frame) (most : ℕ) where
         → StopsHalt (Rattle.sz_rounds.specs.Outcomes.outcome_from job old.round.passed (Rattle.sz_rounds.specs.Rounds.shards_of old.round)) halt
         → RunsSource job journal (record { frame = frame; most = most; bytes = input }) (Err halt)
     way_halts input told journal all halt is =
-        halts_source job (record { frame = frame; most = most; bytes = input }) journal rounds all old b.emits b.reached.read b.reached.over
-        (fresh_of job frame most rounds old start left b)
-        (goes_on_behind job frame most rounds old start left b (drop (last_progress rounds).bytes input) told) halt is
+        halts_source job (record { frame = frame; most = most; bytes = input }) journal rounds all (fresh_of b)
+        (goes_on_behind b (drop (last_progress rounds).bytes input) told) halt is
 
     pub way_told : (first : Option (List ℕ)) (k : ℕ) → start ≡ rest_from k first → IfSome first (λ _. IsSome left)
     way_told first k is =
         told_before k first left (subst (λ s. IfSome s (λ _. IsSome left)) is (still_told start left b.reached.read b.reached.consumed))
 
     -- a round was run and appended
-    module _ (first : Option (List ℕ)) (all : List RoundEntry) (new : Intake) (adds : AddsRound job rounds all old new) where
+    module _ (first : Option (List ℕ)) {all : List RoundEntry} {new : Intake} (adds : AddsRound job rounds all old new) where
       last_bytes : (last_progress all).bytes ≡ adds.round.next_byte
       last_bytes = ap (λ rs. (last_progress rs).bytes) adds.is ∙ ap (λ (p : Progress). p.bytes) (progress-append no_progress rounds (adds.round ∷ []))
 
@@ -210,14 +206,14 @@ none_not None other = refl
 none_not (Some x) other = absurd (other x refl)
 
 -- what the journal is at the start
-pub spelled_at : (name : JobBytes) (job : Job) (journal : Journal) (bytes : Option (List ℕ)) (held : List ℕ) → bytes ≡ Some held
+pub spelled_at : {name : JobBytes} {job : Job} {journal : Journal} {bytes : Option (List ℕ)} {held : List ℕ} → bytes ≡ Some held
     → IsJournalOf name job journal bytes → Spells name (all_tables job.compiled) held (rounds_of journal)
-spelled_at name job journal bytes held told j = subst (λ b. IfSome b (λ held. Spells name (all_tables job.compiled) held (rounds_of journal))) told j.spells
+spelled_at {name = name} {job = job} {journal = journal} told j =
+    subst (λ b. IfSome b (λ held. Spells name (all_tables job.compiled) held (rounds_of journal))) told j.spells
 
-pub keeps_at : (name : JobBytes) (job : Job) (journal : Journal) (bytes : Option (List ℕ)) (may_leave : Images) (held : List ℕ) → Rests bytes may_leave held
-    → IsJournalOf name job journal bytes → KeepsRounds bytes may_leave name (all_tables job.compiled) (rounds_of journal)
-keeps_at name job journal bytes may_leave held rests j =
-    record { held = held; rests = rests; spells = spelled_at name job journal bytes held rests.read j }
+pub keeps_at : {name : JobBytes} {job : Job} {journal : Journal} {bytes : Option (List ℕ)} {may_leave : Images} {held : List ℕ}
+    → Rests bytes may_leave held → IsJournalOf name job journal bytes → KeepsRounds bytes may_leave name (all_tables job.compiled) (rounds_of journal)
+keeps_at {held = held} rests j = record { held = held; rests = rests; spells = spelled_at rests.read j }
 
 -- a piece couldn't be read
 pub way_unread : (job : Job) (journal : Journal) (source : Source) (error : OutsideError) → RunsSource job journal source (Err (of_file error))
@@ -232,24 +228,17 @@ pub not_disk : (error : OutsideError) → of_file error ≡ halts.DiskFailed →
 not_disk outside.Failed is = cc
 not_disk outside.NoMemory is = cc
 
--- an ending gives no other halts
-module _ (decls : List Declaration) (rounds : List RoundEntry) (e : Ending) (answer : Result SavedState Halt) (so : EndsSo decls rounds e answer) where
-  pub so_not_short : (gate : ℕ) → answer ≡ Err (halts.Short gate) → ⊥
-  so_not_short gate is = subst (EndsSo decls rounds e) is so
-
-  pub so_not_disk : answer ≡ Err halts.DiskFailed → ⊥
-  so_not_disk is = subst (EndsSo decls rounds e) is so
-
-  pub so_not_unread : answer ≡ Err (halts.Stopped stops.ReadFailed) → ⊥
-  so_not_unread is = subst (EndsSo decls rounds e) is so
+-- what an ending gives, by the halt
+pub so_not : (decls : List Declaration) (rounds : List RoundEntry) (e : Ending) (answer : Result SavedState Halt) (halt : Halt)
+    → EndsSo decls rounds e answer → answer ≡ Err halt → EndsSo decls rounds e (Err halt)
+so_not decls rounds e answer halt so is = subst (EndsSo decls rounds e) is so
 
 -- what a call may leave, and then a round
-module _ (name : JobBytes) (job : Job) (source : Source) {D : Type 0} (time : D → ℕ) (left_since : D → ℕ → Images) where
-  pub way_leaves : (old mid new : D) (held now : List ℕ) (before rounds added more : List RoundEntry) → rounds ≡ before ++ added
-      → Spells name (all_tables job.compiled) now rounds → LeavesRounds time left_since old mid name job source held before added
-      → LeavesRounds time left_since mid new name job source now rounds more
-      → LeavesRounds time left_since old new name job source held before (added ++ more)
-  way_leaves old mid new held now before rounds added more is spells first second =
-      leaves_rounds name job source time left_since old mid new held now before added more
-      (not_empty name (all_tables job.compiled) now rounds spells) first
-      (subst (λ rs. LeavesRounds time left_since mid new name job source now rs more) is second)
+pub way_leaves : {name : JobBytes} {job : Job} {source : Source} {D : Type 0} {time : D → ℕ} {left_since : D → ℕ → Images} {old mid new : D}
+    {held now : List ℕ} {before rounds added more : List RoundEntry} → rounds ≡ before ++ added → Spells name (all_tables job.compiled) now rounds
+    → LeavesRounds time left_since old mid name job source held before added → LeavesRounds time left_since mid new name job source now rounds more
+    → LeavesRounds time left_since old new name job source held before (added ++ more)
+way_leaves {name = name} {job = job} {source = source} {time = time} {left_since = left_since} {old = old} {mid = mid} {new = new} {held = held} {now = now}
+    {before = before} {rounds = rounds} {added = added} {more = more} is spells first second =
+    leaves_rounds name job source time left_since old mid new held now before added more (not_empty name (all_tables job.compiled) now rounds spells) first
+    (subst (λ rs. LeavesRounds time left_since mid new name job source now rs more) is second)

@@ -1,5 +1,5 @@
 -- What running a job on behind its journal gives.
-use Rattle.std.specs.Prelude.{◌≡◌, ℕ, ◌<◌, ◌≤◌, ⊤, Bool, true, false, List, ◌++◌, length, map, Option, Some, IfSome, Result, Ok, Err}
+use Rattle.std.specs.Prelude.{◌≡◌, ℕ, ◌*◌, ◌<◌, ◌≤◌, ⊤, Bool, true, false, List, length, Option, IfSome, Result, Ok, Err}
 use Rattle.std.specs.Io.KnownBytes.{Consumes, IsAtEnd}
 use Rattle.sz_mean.specs.Marked.{all_tables}
 use Rattle.sz_tabs.specs.Data.{EmitDatum}
@@ -18,11 +18,10 @@ use Rattle.sz_journal_format.specs.Rounds.{AreRounds, last_progress}
 use Rattle.sz_journal_rules.specs.Journals.{Spells}
 use Rattle.sz_journal.specs.declared.journal.Journal.{Journal}
 use Rattle.sz_journal.specs.Journal.{rounds_of, last_gate, IsOf}
-use Rattle.sz_stream.specs.declared.stop.Stop.{Stop}
 use Rattle.sz_stream.specs.declared.stop.Stop.TheVariants as stops
 use Rattle.sz_stream.specs.Inputs.{full, GivesAll}
 use Rattle.sz_resume.specs.declared.halt.Halt.{Halt}
-use Rattle.sz_resume.specs.declared.halt.Halt.TheVariants.{Stopped, Short, DiskFailed}
+use Rattle.sz_resume.specs.declared.halt.Halt.TheVariants.{Stopped, Short}
 use Rattle.sz_resume.specs.Standing.{Source}
 
 -- The journal is one of the job with this name, and its disk spells it where it tells its bytes: so the numbers of its rounds are within their bounds, and
@@ -47,28 +46,27 @@ pub record Skips (before after : Option (List ℕ)) (bytes : ℕ) (all : Bool) :
   pub enough : all ≡ true → length dropped ≡ bytes
   pub short : all ≡ false → (length dropped < bytes) × IsAtEnd after
 
--- what the tables hold is what is saved of all emits, with some bound
-pub record HoldsEmits (job : Job) (emits : List EmitDatum) (tables : SavedState) : Type 0 where
-  pub bound : ℕ
-  pub is : tables ≡ state_of_emits bound (all_tables job.compiled) emits
+-- what the tables hold is what is saved of all emits of so many records, and the bound is the ticks of these records
+abbrev pub HoldsEmits : Job → ℕ → List EmitDatum → SavedState → Type 0
+HoldsEmits job count emits tables = tables ≡ state_of_emits (count * job.budget) (all_tables job.compiled) emits
 
--- the answer is that of an input of so many bytes, whose records have this ending, and of whose shards comes this
-abbrev pub EndsJob : Job → Journal → ℕ → Ending → ShardsEnd → Result SavedState Halt → Type 0
-EndsJob job journal size ending outcome (Ok tables) =
-    (emits : List EmitDatum) × (passed : ℕ) × (ending ≡ endings.Whole) × (outcome ≡ emitted emits passed) × HoldsEmits job emits tables
-EndsJob job journal size ending outcome (Err (Short gate)) = (gate ≡ last_gate journal) × (size < (last_progress (rounds_of journal)).bytes)
-EndsJob job journal size ending outcome (Err (Stopped (stops.Fault number fault))) = outcome ≡ faulted number (seen_fault fault)
-EndsJob job journal size ending outcome (Err (Stopped (stops.Lost shard))) = outcome ≡ lost shard
-EndsJob job journal size ending outcome (Err (Stopped (stops.Damaged byte))) = (ending ≡ endings.Damaged byte) × GivesAll outcome
-EndsJob job journal size ending outcome (Err (Stopped (stops.Limit byte))) = (ending ≡ endings.Limit byte) × GivesAll outcome
-EndsJob job journal size ending outcome (Err other) = ⊤
+-- the answer is that of an input of so many bytes, with so many records, which have this ending, and of whose shards comes this
+abbrev pub EndsJob : Job → Journal → (size count : ℕ) → Ending → ShardsEnd → Result SavedState Halt → Type 0
+EndsJob job journal size count ending outcome (Ok tables) =
+    (emits : List EmitDatum) × (passed : ℕ) × (ending ≡ endings.Whole) × (outcome ≡ emitted emits passed) × HoldsEmits job count emits tables
+EndsJob job journal size count ending outcome (Err (Short gate)) = (gate ≡ last_gate journal) × (size < (last_progress (rounds_of journal)).bytes)
+EndsJob job journal size count ending outcome (Err (Stopped (stops.Fault number fault))) = outcome ≡ faulted number (seen_fault fault)
+EndsJob job journal size count ending outcome (Err (Stopped (stops.Lost shard))) = outcome ≡ lost shard
+EndsJob job journal size count ending outcome (Err (Stopped (stops.Damaged byte))) = (ending ≡ endings.Damaged byte) × GivesAll outcome
+EndsJob job journal size count ending outcome (Err (Stopped (stops.Limit byte))) = (ending ≡ endings.Limit byte) × GivesAll outcome
+EndsJob job journal size count ending outcome (Err other) = ⊤
 
 -- the answer is that of the records of a source, and of the shards that they are cut into
 abbrev pub RunsSource : Job → Journal → Source → Result SavedState Halt → Type 0
 RunsSource job journal source answer =
     (records : List (List ℕ)) (ending : Ending) (sizes : List ℕ) → IsCut source.frame full 0 0 source.bytes records ending
     → AreShards source.most records sizes
-    → EndsJob job journal (length source.bytes) ending (outcome_of job (cut_into 0 1 records sizes)) answer
+    → EndsJob job journal (length source.bytes) (length records) ending (outcome_of job (cut_into 0 1 records sizes)) answer
 
 -- an answer of a file that tells its bytes says that it is too short exactly where it is
 abbrev pub TellsShort : Journal → List ℕ → Result SavedState Halt → Type 0

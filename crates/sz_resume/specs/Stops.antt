@@ -1,6 +1,8 @@
 -- What calls of a job leave of its journal, however they are stopped.
 use Rattle.std.specs.Prelude.{◌≡◌, ◌⊎◌, ℕ, ◌+◌, ◌≤◌, ⊤, List, [], ◌∷◌, ◌++◌, Option}
+use Rattle.sz_types.specs.Tables.{Declaration}
 use Rattle.sz_attempt.specs.declared.job.Job.{Job}
+use Rattle.sz_flat.specs.Spelling.{IsShort}
 use Rattle.sz_disk.specs.Crashes.{Images}
 use Rattle.sz_gates.specs.Crashing.{Rests, LeavesOnly}
 use Rattle.sz_gates.specs.Entries.{IsEmpty}
@@ -8,6 +10,7 @@ use Rattle.sz_journal_format.specs.declared.job.JobBytes.{JobBytes}
 use Rattle.sz_journal_format.specs.declared.progress.Progress.{Progress}
 use Rattle.sz_journal_format.specs.declared.round.RoundEntry.{RoundEntry}
 use Rattle.sz_journal_format.specs.Rounds.{progress_of, last_progress}
+use Rattle.sz_journal_rules.specs.Journals.{Spells}
 use Rattle.sz_resume.specs.Standing.{Source, StandsFor, Stands, IsFound}
 
 -- the rounds are the first of these others
@@ -35,6 +38,10 @@ pub record LeavesRounds {D : Type 0} (time : D → ℕ) (left_since : D → ℕ 
   pub small : AreSmall (last_progress before) added
   pub leaves : LeavesOnly time left_since old new (IsLeft name job source held before added)
 
+-- the image spells the job with these rounds and others after them, whatever they stand for
+abbrev pub SpellsMore : JobBytes → List Declaration → List RoundEntry → List ℕ → Type 0
+SpellsMore name decls rounds image = (more : List RoundEntry) × Spells name decls image (rounds ++ more)
+
 -- The end. A crash leaves what a read gives, and that stands for the job with rounds that together hold all shards: those that were there and those that
 -- the call added
 pub record HoldsAll (bytes : Option (List ℕ)) (may_leave : Images) (name : JobBytes) (job : Job) (source : Source) (rounds : List RoundEntry)
@@ -58,9 +65,9 @@ last_of held [] = held
 last_of held (image ∷ images) = last_of image images
 
 -- However often a job is stopped, what is left is again a journal that a call of it may find: so by what a call answers over such a journal, the
--- one that isn't stopped answers what one call over an empty journal does
+-- one that isn't stopped answers what one call over an empty journal does. The journal has the rounds that it had at first, and others after them
 abbrev pub StopsLeaveTheJob : Type 0
 StopsLeaveTheJob =
     (name : JobBytes) (job : Job) (source : Source) (held : List ℕ) (before : List RoundEntry) (images : List (List ℕ))
     → IsFound name job source held before → EachIsLeft name job source held images
-    → (rounds : List RoundEntry) × IsFound name job source (last_of held images) rounds
+    → (rounds : List RoundEntry) × IsFound name job source (last_of held images) rounds × (IsShort name.skip → AreFirst before rounds)

@@ -1,5 +1,5 @@
 -- What is known between two rounds of a job that is resumed, and what a round changes.
-use Rattle.std.specs.Prelude.{◌≡◌, ℕ, ◌+◌, ◌-◌, ◌<◌, ◌≤◌, ⊤, Bool, List, [], ◌∷◌, ◌++◌, length, drop, Option, Some, Result, Ok, Err}
+use Rattle.std.specs.Prelude.{◌≡◌, ℕ, ◌+◌, ◌-◌, ◌<◌, ◌≤◌, ⊤, Bool, List, [], ◌∷◌, ◌++◌, length, drop, Option, Result, Ok, Err}
 use Rattle.std.specs.Option.{option_map}
 use Rattle.sz_types.specs.declared.frame.Frame.{Frame}
 use Rattle.sz_types.specs.Tables.{Declaration}
@@ -23,6 +23,7 @@ use Rattle.sz_stream.specs.InputRuns.{IsRunning, Reaches, StopsShards}
 use Rattle.sz_resume.specs.declared.halt.Halt.{Halt}
 use Rattle.sz_resume.specs.declared.halt.Halt.TheVariants.{Stopped, Short, DiskFailed}
 use Rattle.sz_resume.specs.Standing.{Source, AreRoundsOf}
+use Rattle.sz_resume.specs.Stops.{AreSmall}
 use Rattle.sz_resume.specs.Entries.{done_of, HoldsRounds}
 
 -- however the input is cut, the rounds are those of its first shards
@@ -63,6 +64,7 @@ rest_from count left = option_map (drop count) left
 pub record AddsRound (job : Job) (rounds all : List RoundEntry) (old new : Intake) : Type 0 where
   pub round : RoundEntry
   pub is : all ≡ rounds ++ round ∷ []
+  pub small : AreSmall (last_progress rounds) (round ∷ [])
   pub further : old.first < new.first
   pub rises : (last_progress rounds).bytes ≤ round.next_byte
   pub goes_on : (frame : Frame) (most : ℕ) (start left : Option (List ℕ)) → IsBehind job frame most rounds old start left

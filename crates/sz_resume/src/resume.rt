@@ -1,5 +1,5 @@
 //! An input that is run on behind the rounds of a journal.
-ghost use Rattle.std.specs.Prelude.{◌≡◌, ◌<◌, ◌≤◌, ◌^◌, ◌++◌, ◌∷◌, [], ℕ, List, drop, length, Some, Option, true, IfOk, IfSome, IfErr, OnOk, IsSome, IsTrue, IsErrOf};
+ghost use Rattle.std.specs.Prelude.{◌≡◌, ◌<◌, ◌≤◌, ◌++◌, ℕ, List, drop, length, Some, Option, true, IfSome, IfErr, OnOk, IsSome, IsTrue, IsErrOf};
 ghost use Rattle.std.specs.Io.KnownBytes.{IsAtEnd};
 ghost use Rattle.sz_io.specs.Rose.{Rose};
 ghost use Rattle.sz_io.specs.Opened.{KeepsOtherFiles};
@@ -7,7 +7,7 @@ ghost use Rattle.sz_mean.specs.Marked.{all_tables};
 ghost use Rattle.sz_save.specs.Saving.{HaveSpelling};
 ghost use Rattle.sz_attempt.specs.Shards.{IsJob};
 ghost use Rattle.sz_disk.specs.Crashes.{are_told};
-ghost use Rattle.sz_gates.specs.Crashing.{Rests, DoesNotFall};
+ghost use Rattle.sz_gates.specs.Crashing.{Rests, LeavesOnly, DoesNotFall};
 ghost use Rattle.sz_journal.specs.Journal.{rounds_of, last_gate, KeepsRounds};
 ghost use Rattle.sz_journal_format.specs.declared.job.JobBytes.{JobBytes};
 ghost use Rattle.sz_journal_format.specs.declared.round.RoundEntry.{RoundEntry};
@@ -20,7 +20,7 @@ ghost use Rattle.sz_resume.specs.Halts.{of_file};
 ghost use Rattle.sz_resume.specs.Standing.{Source, Stands, IsFound};
 ghost use Rattle.sz_resume.specs.Entries.{done_of};
 ghost use Rattle.sz_resume.specs.Turns.{AllStand, IsBehind, HasNext, AddsRound, StopsHalt, EndsSo};
-ghost use Rattle.sz_resume.specs.Stops.{LeavesRounds, HoldsAll};
+ghost use Rattle.sz_resume.specs.Stops.{AreSmall, LeavesRounds, SpellsMore, HoldsAll};
 ghost use Rattle.sz_resume.specs.Runs.{IsJournalOf, HasJournal, RunsSource, TellsShort};
 
 use crate::halt::{Halt, of_disk, of_file};
@@ -67,9 +67,11 @@ pub fn resume_file<R: Threads + Sync, F: Files, G: Gate + Sync, K: Disk>(
         → RunsSource job.now journal.old (record { frame = settings.now.frame; most = settings.now.shard; bytes = input }) result }
     ensures short { IfSome (F.left files.old file) (λ input. TellsShort journal.old input result) }
     ensures gate { (gate : ℕ) → IsErrOf result (Halt.Short gate) → (gate ≡ last_gate journal.old) × (0 < (last_progress (rounds_of journal.old)).bytes) }
+    ensures short_keeps { (gate : ℕ) → IsErrOf result (Halt.Short gate) → (disk.new ≡ disk.old) × (journal.new ≡ journal.old) }
     ensures end { OnOk result (IsAtEnd (F.left files.new file)) }
     ensures told { OnOk result (IfSome (F.left files.old file) (λ _. IsSome (F.left files.new file))) }
-    ensures grows { OnOk result ((added : List RoundEntry) × (rounds_of journal.new ≡ rounds_of journal.old ++ added)) }
+    ensures grows { OnOk result ((added : List RoundEntry) × (rounds_of journal.new ≡ rounds_of journal.old ++ added)
+        × AreSmall (last_progress (rounds_of journal.old)) added) }
 
     ensures stopped { (input held : List ℕ) (name : JobBytes) → F.left files.old file ≡ Some input → Rests (K.bytes disk.old) (K.may_leave disk.old) held
         → are_told (K.may_leave disk.old) ≡ true → IsJournalOf name job.now journal.old (K.bytes disk.old)
@@ -77,6 +79,9 @@ pub fn resume_file<R: Threads + Sync, F: Files, G: Gate + Sync, K: Disk>(
         → (added : List RoundEntry) × LeavesRounds K.time K.left_since disk.old disk.new name job.now
         (record { frame = settings.now.frame; most = settings.now.shard; bytes = input }) held (rounds_of journal.old) added
         × OnOk result (rounds_of journal.new ≡ rounds_of journal.old ++ added) }
+    ensures entries { (name : JobBytes) (held : List ℕ) → Rests (K.bytes disk.old) (K.may_leave disk.old) held → are_told (K.may_leave disk.old) ≡ true
+        → IsJournalOf name job.now journal.old (K.bytes disk.old)
+        → LeavesOnly K.time K.left_since disk.old disk.new (SpellsMore name (all_tables job.now.compiled) (rounds_of journal.old)) }
     ensures ended { (input held : List ℕ) (name : JobBytes) → F.left files.old file ≡ Some input → Rests (K.bytes disk.old) (K.may_leave disk.old) held
         → IsJournalOf name job.now journal.old (K.bytes disk.old)
         → IsFound name job.now (record { frame = settings.now.frame; most = settings.now.shard; bytes = input }) held (rounds_of journal.old)
@@ -144,7 +149,8 @@ fn run_behind<R: Threads + Sync, F: Files, G: Gate + Sync, K: Disk>(
     ensures long { (gate : ℕ) → IsErrOf result (Halt.Short gate) → ⊥ }
     ensures end { OnOk result (IsAtEnd (F.left files.new file)) }
     ensures told { OnOk result (IfSome (F.left files.old file) (λ _. IsSome (F.left files.new file))) }
-    ensures grows { OnOk result ((added : List RoundEntry) × (rounds_of journal.new ≡ rounds_of journal.old ++ added)) }
+    ensures grows { OnOk result ((added : List RoundEntry) × (rounds_of journal.new ≡ rounds_of journal.old ++ added)
+        × AreSmall (last_progress (rounds_of journal.old)) added) }
 
     ensures stopped { (input held : List ℕ) (name : JobBytes) → F.left files.old file ≡ Some (drop (last_progress (rounds_of journal.old)).bytes input)
         → Rests (K.bytes disk.old) (K.may_leave disk.old) held → are_told (K.may_leave disk.old) ≡ true
@@ -153,6 +159,9 @@ fn run_behind<R: Threads + Sync, F: Files, G: Gate + Sync, K: Disk>(
         → (added : List RoundEntry) × LeavesRounds K.time K.left_since disk.old disk.new name job.now
         (record { frame = settings.now.frame; most = settings.now.shard; bytes = input }) held (rounds_of journal.old) added
         × OnOk result (rounds_of journal.new ≡ rounds_of journal.old ++ added) }
+    ensures entries { (name : JobBytes) (held : List ℕ) → Rests (K.bytes disk.old) (K.may_leave disk.old) held → are_told (K.may_leave disk.old) ≡ true
+        → IsJournalOf name job.now journal.old (K.bytes disk.old)
+        → LeavesOnly K.time K.left_since disk.old disk.new (SpellsMore name (all_tables job.now.compiled) (rounds_of journal.old)) }
     ensures ended { (input held : List ℕ) (name : JobBytes) → F.left files.old file ≡ Some (drop (last_progress (rounds_of journal.old)).bytes input)
         → Rests (K.bytes disk.old) (K.may_leave disk.old) held → IsJournalOf name job.now journal.old (K.bytes disk.old)
         → Stands name job.now (record { frame = settings.now.frame; most = settings.now.shard; bytes = input }) held (rounds_of journal.old)
@@ -235,6 +244,9 @@ fn run_next<R: Threads + Sync, G: Gate + Sync, K: Disk>(
         → are_told (K.may_leave disk.old) ≡ true → IsJournalOf name job.now journal.old (K.bytes disk.old)
         → (added : List RoundEntry) × LeavesRounds K.time K.left_since disk.old disk.new name job.now source held (rounds_of journal.old) added
         × OnOk result (rounds_of journal.new ≡ rounds_of journal.old ++ added) }
+    ensures entries { (name : JobBytes) (held : List ℕ) → Rests (K.bytes disk.old) (K.may_leave disk.old) held → are_told (K.may_leave disk.old) ≡ true
+        → IsJournalOf name job.now journal.old (K.bytes disk.old)
+        → LeavesOnly K.time K.left_since disk.old disk.new (SpellsMore name (all_tables job.now.compiled) (rounds_of journal.old)) }
     ensures told { are_told (K.may_leave disk.new) ≡ are_told (K.may_leave disk.old) }
 
     ensures err { IfErr result (StopsHalt (outcome_from job.now intake.old.round.passed (shards_of intake.old.round))) }

@@ -1,5 +1,5 @@
 -- What a job answers behind the rounds of its journal, and what it leaves of the journal.
-use Rattle.std.proofs.Common.{◌≡◌, ◌≢◌, ◌⊎◌, ℕ, zero, suc, ◌+◌, ◌-◌, ◌<◌, ◌≤◌, Bool, true, false, List, [], ◌∷◌, ◌++◌, length, take, Option, Some, None}
+use Rattle.std.proofs.Common.{◌≡◌, ◌≢◌, ◌⊎◌, ℕ, zero, suc, ◌+◌, ◌-◌, ◌*◌, ◌<◌, ◌≤◌, Bool, true, false, List, [], ◌∷◌, ◌++◌, length, take, Option, Some, None}
 use Rattle.std.proofs.Common.{refl, sym, ap, ◌∙◌, subst, arith, inl, inr, ltb, ltb-true, ltb-false, append-nil}
 use Rattle.std.specs.Prelude.{IfSome, OnOk, unwrap_or, replicate, nat_lt, Result, Ok, Err, if◌then◌else◌}
 use Rattle.std.proofs.lemmas.List.{length-replicate}
@@ -38,7 +38,7 @@ use Rattle.sz_journal.specs.Journal as journals
 use Rattle.sz_resume.specs.declared.halt.Halt.{Halt}
 use Rattle.sz_resume.specs.declared.halt.Halt.TheVariants as halts
 use Rattle.sz_resume.specs.Standing.{IsFound}
-use Rattle.sz_resume.specs.Runs.{EndsJob, RunsSource, TellsShort, HoldsEmits}
+use Rattle.sz_resume.specs.Runs.{EndsJob, RunsSource, TellsShort}
 use Rattle.szl.specs.declared.status.Status.{Status}
 use Rattle.szl.specs.declared.status.Status.TheVariants as status
 use Rattle.szl.specs.declared.failure.Failure.{Failure}
@@ -301,7 +301,7 @@ module _ {F : Type 0} (the_files : files.Ghosts F) (s : RunSettings) (job : Job)
   module _ (low : 1 ≤ s.shard) (j : Journal) (rounds_are : rounds_of j ≡ rounds) where
     -- the shards of an input that is told
     ends_of : (r : Result SavedState Halt) (bytes : List ℕ) (cut : Cut) → RunsSource job j (source_of s bytes) r → IsCutInto s.frame bytes cut
-        → EndsJob job j (length bytes) cut.ending (run_end cut) r
+        → EndsJob job j (length bytes) (length cut.records) cut.ending (run_end cut) r
     ends_of r bytes cut runs is = runs cut.records cut.ending (shard_sizes s.shard cut.records) is (sizes_are_shards s.shard cut.records low)
 
     abbrev Runs : Result SavedState Halt → Type 0
@@ -371,5 +371,5 @@ module _ {F : Type 0} (the_files : files.Ghosts F) (s : RunSettings) (job : Job)
         let e = ends_of (Ok all) bytes cut (runs bytes held t q found) is in
         sym (ap (outcome_of_shards (tables_text (all_tables job.compiled)) cut.ending) e.3
         ∙ ap (λ g. outcome_of_ending g (tables_text (all_tables job.compiled) e.0)) e.2
-        ∙ ap success (sym (text e.4.bound (all_tables job.compiled) e.0 e.4.is))))
+        ∙ ap success (sym (text (length cut.records * job.budget) (all_tables job.compiled) e.0 e.4))))
         refl opened

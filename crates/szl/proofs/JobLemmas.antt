@@ -281,6 +281,7 @@ module _ (law : IsOneStanding) (s : RunSettings) (low : 1 ≤ s.shard) (no_save 
       → KeepsJob the_disk name plain (source_of s input) held before st disk new
   keeps_journal the_disk input held before st disk mid new found fits k told opened later = record {
     added = later.added;
+    small = subst (λ rs. AreSmall (last_progress rs) later.added) same later.small;
     stopped = λ is.
         let l = later.stopped (told ∙ is) in
         record {
@@ -347,6 +348,7 @@ pub keeps_unopened : {K : Type 0} → IsOneStanding → (s : RunSettings) → 1 
     → KeepsJob the_disk name (job_of program slots s) (source_of s input) held before st disk mid
 keeps_unopened law s low program slots name few the_disk input held before st unfinished disk mid found leaves = record {
   added = [];
+  small = tt;
   stopped = λ is. record {
     found = found;
     small = tt;

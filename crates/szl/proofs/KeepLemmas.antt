@@ -25,7 +25,7 @@ use Rattle.sz_journal.specs.Journal.{rounds_of, KeepsRounds}
 use Rattle.sz_journal.specs.Opening.{FitsAnswer, IsKept}
 use Rattle.sz_resume.specs.Standing.{Source, IsRoundOf, AreRoundsOf, StandsFor, IsFound}
 use Rattle.sz_resume.specs.Standing as by_rounds
-use Rattle.sz_resume.specs.Stops.{AreFirst, IsLeft, AreSmall, LeavesRounds, HoldsAll}
+use Rattle.sz_resume.specs.Stops.{AreFirst, IsLeft, AreSmall, LeavesRounds, SpellsMore, HoldsAll}
 use Rattle.sz_words.specs.declared.settings.RunSettings.{RunSettings}
 use Rattle.szl.specs.declared.failure.Failure.{Failure}
 use Rattle.szl.specs.declared.failure.Failure.TheVariants as failure
@@ -33,8 +33,8 @@ use Rattle.szl.specs.Failing.{status_of}
 use Rattle.szl.specs.declared.status.Status.{Status}
 use Rattle.szl.specs.declared.status.Status.TheVariants as status
 use Rattle.szl.specs.ProgramRuns.{IsJobOf}
-use Rattle.szl.specs.ResumePromise.{KeepsJob}
-use Rattle.szl.specs.Resuming.{source_of}
+use Rattle.szl.specs.ResumePromise.{IsNameFor, KeepsEntries, KeepsJob, LosesNothing, SpellsOn}
+use Rattle.szl.specs.Resuming.{name_of, source_of}
 use Rattle.szl.specs.Shards.{shard_sizes, job_of}
 use Rattle.szl.proofs.AnswerLemmas.{cut_of, same_outcome}
 use Rattle.szl.proofs.ShardLemmas.{sizes_are_shards}
@@ -149,6 +149,7 @@ module _ (name : JobBytes) (job : Job) (source : Source) where
         → Rests (the_disk.bytes disk) (the_disk.may_leave disk) held → KeepsJob the_disk name job source held before st disk disk
     keeps_none disk now rests = record {
       added = [];
+      small = tt;
       stopped = λ told. record {
         found = found;
         small = tt;
@@ -168,11 +169,13 @@ module _ (name : JobBytes) (job : Job) (source : Source) where
     keeps_stopped unfinished stopped = by (are_told (the_disk.may_leave disk)) refl
       where
         by : (b : Bool) → are_told (the_disk.may_leave disk) ≡ b → KeepsJob the_disk name job source held before st disk new
-        by true t = record { added = (stopped t).0; stopped = λ told. (stopped t).1; ended = λ is. absurd (unfinished is) }
-        by false t = record { added = []; stopped = λ told. absurd (true≢false (sym told ∙ t)); ended = λ is. absurd (unfinished is) }
+        by true t =
+            record { added = (stopped t).0; small = (stopped t).1.small; stopped = λ told. (stopped t).1; ended = λ is. absurd (unfinished is) }
+        by false t = record { added = []; small = tt; stopped = λ told. absurd (true≢false (sym told ∙ t)); ended = λ is. absurd (unfinished is) }
 
     -- one that has these rounds at its end
-    pub keeps_ended : (now : List RoundEntry) → Left (λ added. now ≡ before ++ added) → (added : List RoundEntry) × (now ≡ before ++ added)
+    pub keeps_ended : (now : List RoundEntry) → Left (λ added. now ≡ before ++ added)
+        → (added : List RoundEntry) × (now ≡ before ++ added) × AreSmall (last_progress before) added
         → HoldsAll (the_disk.bytes new) (the_disk.may_leave new) name job source now → KeepsJob the_disk name job source held before st disk new
     keeps_ended now stopped grows ended = by (are_told (the_disk.may_leave disk)) refl
       where
@@ -181,8 +184,10 @@ module _ (name : JobBytes) (job : Job) (source : Source) where
         all added is = subst (λ rs. HoldsAll (the_disk.bytes new) (the_disk.may_leave new) name job source rs) is ended
 
         by : (b : Bool) → are_told (the_disk.may_leave disk) ≡ b → KeepsJob the_disk name job source held before st disk new
-        by true t = record { added = (stopped t).0; stopped = λ told. (stopped t).1; ended = λ is. all (stopped t).0 (stopped t).2 }
-        by false t = record { added = grows.0; stopped = λ told. absurd (true≢false (sym told ∙ t)); ended = λ is. all grows.0 grows.1 }
+        by true t =
+            record { added = (stopped t).0; small = (stopped t).1.small; stopped = λ told. (stopped t).1; ended = λ is. all (stopped t).0 (stopped t).2 }
+        by false t =
+            record { added = grows.0; small = grows.2; stopped = λ told. absurd (true≢false (sym told ∙ t)); ended = λ is. all grows.0 grows.1 }
 
 -- ---- a journal that was opened
 
@@ -270,6 +275,93 @@ module _ (law : IsOneStanding) (s : RunSettings) (job : Job) (name : JobBytes) (
           never none = let e = law name decls keeps.held Empty (Spelled (rounds_of journal)) few none keeps.spells in absurd (cc)
       left_since_opened added image (inr l) =
           inr (l.0, l.1, subst (λ rs. by_rounds.Stands name job (source_of s input) image (rs ++ l.0)) same_rounds l.2)
+
+-- ---- whatever the files hold
+
+-- the rounds are spelled still, where the disk isn't called
+pub rounds_untouched : {K : Type 0} (the_disk : disks.Ghosts K) (name : JobBytes) (decls : List Declaration) (rounds : List RoundEntry) (disk : K)
+    (held : List ℕ) → AreAmong (the_disk.left_since disk (the_disk.time disk)) (the_disk.may_leave disk)
+    → Rests (the_disk.bytes disk) (the_disk.may_leave disk) held → are_told (the_disk.may_leave disk) ≡ true
+    → IfSome (the_disk.bytes disk) (λ bytes. Spells name decls bytes rounds)
+    → LeavesOnly the_disk.time the_disk.left_since disk disk (SpellsMore name decls rounds)
+rounds_untouched the_disk name decls rounds disk held now rests told spelled =
+    leaves_none the_disk.may_leave the_disk.time the_disk.left_since the_disk.faults disk (SpellsMore name decls rounds) now
+    (λ image left. (
+      [],
+      subst (λ (b : List ℕ). Spells name decls b (rounds ++ [])) (sym (the_image (the_disk.may_leave disk) held image told rests.only left))
+          (subst (Spells name decls held) (sym (append-nil rounds))
+          (subst (λ o. IfSome o (λ bytes. Spells name decls bytes rounds)) rests.read spelled)),
+    ))
+
+module _ {K : Type 0} (the_disk : disks.Ghosts K) where
+  -- the disk isn't called
+  pub entries_untouched : (IsName : JobBytes → Type 0) (disk : K) → AreAmong (the_disk.left_since disk (the_disk.time disk)) (the_disk.may_leave disk)
+      → KeepsEntries the_disk IsName disk disk
+  entries_untouched IsName disk now held rests told =
+      leaves_none the_disk.may_leave the_disk.time the_disk.left_since the_disk.faults disk (LosesNothing IsName held) now
+      (λ image left. inl (the_image (the_disk.may_leave disk) held image told rests.only left))
+
+  -- of one name, and so of each that it may be
+  pub entries_named : (s : RunSettings) (name : JobBytes) (program proto : List ℕ) → name ≡ name_of s program proto → (disk new : K)
+      → KeepsEntries the_disk (λ other. other ≡ name) disk new → KeepsEntries the_disk (IsNameFor s) disk new
+  entries_named s name program proto is disk new keeps held rests told =
+      leaves_if the_disk.time the_disk.left_since disk new (LosesNothing (λ other. other ≡ name) held) (LosesNothing (IsNameFor s) held) by
+      (keeps held rests told)
+    where
+      by : (image : List ℕ) → LosesNothing (λ other. other ≡ name) held image → LosesNothing (IsNameFor s) held image
+      by image (inl same) = inl same
+      by image (inr (inl none)) = inr (inl none)
+      by image (inr (inr on)) =
+          inr (inr (record {
+            name = on.name;
+            is_name = record { program = program; proto = proto; is = on.is_name ∙ is };
+            decls = on.decls;
+            before = on.before;
+            more = on.more;
+            was = on.was;
+            is = on.is;
+          }))
+
+  module _ (name : JobBytes) (decls : List Declaration) (disk mid : K)
+      (opened : (held : List ℕ) → Rests (the_disk.bytes disk) (the_disk.may_leave disk) held → are_told (the_disk.may_leave disk) ≡ true
+      → LeavesOnly the_disk.time the_disk.left_since disk mid (IsKept name decls held)) where
+    kept_loses : (held image : List ℕ) → IsKept name decls held image → LosesNothing (λ other. other ≡ name) held image
+    kept_loses held image (inl same) = inl same
+    kept_loses held image (inr (empty, inl none)) = inr (inl (empty, none))
+    kept_loses held image (inr (empty, inr spells)) =
+        inr (inr (record { name = name; is_name = refl; decls = decls; before = []; more = []; was = inl (empty, refl); is = spells }))
+
+    -- the journal was opened, or it wasn't
+    pub entries_opened : KeepsEntries the_disk (λ other. other ≡ name) disk mid
+    entries_opened held rests told =
+        leaves_if the_disk.time the_disk.left_since disk mid (IsKept name decls held) (LosesNothing (λ other. other ≡ name) held) (kept_loses held)
+        (opened held rests told)
+
+    -- and then rounds were appended
+    pub entries_behind : (journal : Journal) (new : K)
+        → ((held : List ℕ) → the_disk.bytes disk ≡ Some held → FitsAnswer name decls held (Ok journal))
+        → ((held : List ℕ) → the_disk.bytes disk ≡ Some held → KeepsRounds (the_disk.bytes mid) (the_disk.may_leave mid) name decls (rounds_of journal))
+        → are_told (the_disk.may_leave mid) ≡ are_told (the_disk.may_leave disk)
+        → ((held : List ℕ) → Rests (the_disk.bytes mid) (the_disk.may_leave mid) held → are_told (the_disk.may_leave mid) ≡ true
+        → LeavesOnly the_disk.time the_disk.left_since mid new (SpellsMore name decls (rounds_of journal)))
+        → KeepsEntries the_disk (λ other. other ≡ name) disk new
+    entries_behind journal new fits keeps same later held rests told =
+        let k = keeps held rests.read in
+        leaves_both the_disk.time the_disk.left_since disk mid new (LosesNothing (λ other. other ≡ name) held) (entries_opened held rests told)
+        (leaves_if the_disk.time the_disk.left_since mid new (SpellsMore name decls (rounds_of journal)) (LosesNothing (λ other. other ≡ name) held)
+        (λ image on. inr (inr (record {
+          name = name;
+          is_name = refl;
+          decls = decls;
+          before = rounds_of journal;
+          more = on.0;
+          was = by (fits held rests.read);
+          is = on.1;
+        }))) (later k.held k.rests (same ∙ told)))
+      where
+        by : FitsAnswer name decls held (Ok journal) → (IsEmpty held × (rounds_of journal ≡ [])) ⊎ Spells name decls held (rounds_of journal)
+        by (inl spells) = inr spells
+        by (inr none) = inl none
 
 -- a failure has a status of its own
 pub not_done : (f : Failure) → status_of f ≢ status.Done

@@ -44,7 +44,7 @@ use Rattle.szl.specs.Records.{Cut}
 use Rattle.szl.specs.Savable.{savable}
 use Rattle.szl.specs.Shards.{job_of}
 use Rattle.szl.specs.Resuming.{name_of, source_of, last_gate, damaged_behind, unless_journal, outcome_behind_statics, outcome_behind_checked, outcome_behind_read, outcome_of_resume}
-use Rattle.szl.specs.ResumePromise.{IfSpelled, IfRun, IfKnown, IsBehind, IsByJournal, IsJobOutcome, IsToldFile, KeepsJob, KeepsFound, KeepsJournal}
+use Rattle.szl.specs.ResumePromise.{IfSpelled, IfRun, IfKnown, IsBehind, IsByJournal, IsJobOutcome, IsToldFile, IsNameFor, KeepsJob, KeepsDisk, KeepsEntries, KeepsFound, KeepsJournal}
 use Rattle.szl.specs.JournalRuns.{as_memory, AnswersJob, IsProgramOutcome, IsTextOutcome, IsFileOutcome, IfBegun, but_one}
 use Rattle.szl.proofs.JudgementLemmas.{one_reading, every_text_is_read}
 use Rattle.szl.proofs.AnswerLemmas.{cut_of, no_usage}
@@ -55,7 +55,7 @@ use Rattle.szl.proofs.SettingsLemmas.{IsAnswered, decides_since, long_failure}
 use Rattle.szl.proofs.BehindLemmas.{decides_behind}
 use Rattle.szl.proofs.ProtoLemmas.{every_file_is_read, one_file_reading}
 use Rattle.szl.proofs.JobLemmas.{HasRest, no_rest, some_rest}
-use Rattle.szl.proofs.KeepLemmas.{keeps_none}
+use Rattle.szl.proofs.KeepLemmas.{keeps_none, entries_untouched}
 
 -- ---- what is so of the program that is spelled
 
@@ -289,18 +289,29 @@ module _ {K : Type 0} (the_disk : disks.Ghosts K) (s : RunSettings) (types : Lis
     -- nothing was written
     pub nothing_kept : (reading : Reading) (disk : K) → st ≢ status.Done
         → AreAmong (the_disk.left_since disk (the_disk.time disk)) (the_disk.may_leave disk)
-        → KeepsFound the_disk s (IfSpelled s types reading) name told st disk disk
-    nothing_kept (refused r) disk unfinished now = λ input held t rests. tt
-    nothing_kept (spells ss) disk unfinished now = λ input held t rests program slots is begun before found.
-        keeps_none name (job_of program slots s) (source_of s input) the_disk held before found st unfinished disk now rests
+        → KeepsDisk the_disk s (IfSpelled s types reading) name told st disk disk
+    nothing_kept (refused r) disk unfinished now = record {
+      untouched = λ none. refl;
+      entries = entries_untouched the_disk (λ other. other ≡ name) disk now;
+      found = λ input held t rests. tt;
+    }
+    nothing_kept (spells ss) disk unfinished now = record {
+      untouched = λ none. refl;
+      entries = entries_untouched the_disk (λ other. other ≡ name) disk now;
+      found = λ input held t rests program slots is begun before found.
+          keeps_none name (job_of program slots s) (source_of s input) the_disk held before found st unfinished disk now rests;
+    }
 
     -- what the program's job leaves is what the text's does
     pub text_keeps : (text : List ℕ) (ss : Stms) (program : Marked) (reading : Reading) (disk new : K) → IsShort text → HasStatements text ss
         → savable types true s.ignore_undefs ss ≡ Ok program → IsRead text reading
-        → KeepsFound the_disk s (IfBegun s program) name told st disk new → KeepsFound the_disk s (IfSpelled s types reading) name told st disk new
+        → KeepsDisk the_disk s (IfBegun s program) name told st disk new → KeepsDisk the_disk s (IfSpelled s types reading) name told st disk new
     text_keeps text ss program reading disk new short has h read k =
-        subst (λ r. KeepsFound the_disk s (IfSpelled s types r) name told st disk new) (one_reading text (spells ss) reading (short, has) read)
-        (λ input held t rests. if_spelled s types ss program h _ (k input held t rests))
+        subst (λ r. KeepsDisk the_disk s (IfSpelled s types r) name told st disk new) (one_reading text (spells ss) reading (short, has) read) (record {
+          untouched = λ none. k.untouched (λ slots begun. none program slots h begun);
+          entries = k.entries;
+          found = λ input held t rests. if_spelled s types ss program h _ (k.found input held t rests);
+        })
 
 -- ---- the program's file
 
@@ -644,11 +655,18 @@ module _ {F K : Type 0} (the_files : files.Ghosts F) (the_disk : disks.Ghosts K)
   -- nothing was written
   pub nothing_left : (old : F) (disk : K) → st ≢ status.Done → AreAmong (the_disk.left_since disk (the_disk.time disk)) (the_disk.may_leave disk)
       → KeepsJournal the_files the_disk s st old disk disk
-  nothing_left old disk unfinished now = λ text proto file reading t p file_read read. by text proto reading file
+  nothing_left old disk unfinished now = record {
+    entries = entries_untouched the_disk (IsNameFor s) disk now;
+    of_job = λ text proto file reading t p file_read read. by text proto reading file;
+  }
     where
       by : (text proto : List ℕ) (reading : Reading) (file : FileReading)
-          → KeepsFound the_disk s (IfRun s file reading) (name_of s text proto) (the_files.held old s.input) st disk disk
-      by text proto reading (bad_file f) = λ input held t rests. tt
+          → KeepsDisk the_disk s (IfRun s file reading) (name_of s text proto) (the_files.held old s.input) st disk disk
+      by text proto reading (bad_file f) = record {
+        untouched = λ none. refl;
+        entries = entries_untouched the_disk (λ other. other ≡ name_of s text proto) disk now;
+        found = λ input held t rests. tt;
+      }
       by text proto reading (with_types types) =
           nothing_kept the_disk s types (name_of s text proto) (the_files.held old s.input) st reading disk unfinished now
 
@@ -657,20 +675,26 @@ module _ {F K : Type 0} (the_files : files.Ghosts F) (the_disk : disks.Ghosts K)
       → ((name : List ℕ) → the_files.held mid name ≡ the_files.held old name) → IsFileRead bytes (with_types types)
       → IsOfFile s.proto (the_files.held old) bytes
       → ((text : List ℕ) (reading : Reading) → the_files.held mid s.program ≡ Some text → IsRead text reading
-      → KeepsFound the_disk s (IfSpelled s types reading) (name_of s text bytes) (the_files.held mid s.input) st disk new)
-      → KeepsJournal the_files the_disk s st old disk new
-  file_keeps old mid types bytes disk new same read of_file k text proto file reading t p file_read is_read =
-      let bytes_are : bytes ≡ proto = by s.proto of_file p in
-      let file_is : with_types types ≡ file
-      = one_file_reading proto (with_types types) file (subst (λ (b : List ℕ). IsFileRead b (with_types types)) bytes_are read) file_read in
-      subst (λ f. KeepsFound the_disk s (IfRun s f reading) (name_of s text proto) (the_files.held old s.input) st disk new) file_is
-      (subst (λ (b : List ℕ). KeepsFound the_disk s (IfSpelled s types reading) (name_of s text b) (the_files.held old s.input) st disk new) bytes_are
-      (subst (λ h. KeepsFound the_disk s (IfSpelled s types reading) (name_of s text bytes) h st disk new) (same s.input)
-      (k text reading (same s.program ∙ t) is_read)))
+      → KeepsDisk the_disk s (IfSpelled s types reading) (name_of s text bytes) (the_files.held mid s.input) st disk new)
+      → KeepsEntries the_disk (IsNameFor s) disk new → KeepsJournal the_files the_disk s st old disk new
+  file_keeps old mid types bytes disk new same read of_file k entries =
+      record { entries = entries; of_job = λ text proto file reading t p file_read is_read. of_job text proto file reading t p file_read is_read }
     where
-      by : (name : Option (List ℕ)) → IsOfFile name (the_files.held old) bytes → IsToldFile name (the_files.held old) proto → bytes ≡ proto
-      by None of p = of ∙ sym p
-      by (Some name) of p = sym (subst (λ h. IfSome h (λ told. told ≡ bytes)) p of)
+      of_job : (text proto : List ℕ) (file : FileReading) (reading : Reading) → the_files.held old s.program ≡ Some text
+          → IsToldFile s.proto (the_files.held old) proto → IsFileRead proto file → IsRead text reading
+          → KeepsDisk the_disk s (IfRun s file reading) (name_of s text proto) (the_files.held old s.input) st disk new
+      of_job text proto file reading t p file_read is_read =
+          let bytes_are : bytes ≡ proto = by s.proto of_file p in
+          let file_is : with_types types ≡ file
+          = one_file_reading proto (with_types types) file (subst (λ (b : List ℕ). IsFileRead b (with_types types)) bytes_are read) file_read in
+          subst (λ f. KeepsDisk the_disk s (IfRun s f reading) (name_of s text proto) (the_files.held old s.input) st disk new) file_is
+          (subst (λ (b : List ℕ). KeepsDisk the_disk s (IfSpelled s types reading) (name_of s text b) (the_files.held old s.input) st disk new) bytes_are
+          (subst (λ h. KeepsDisk the_disk s (IfSpelled s types reading) (name_of s text bytes) h st disk new) (same s.input)
+          (k text reading (same s.program ∙ t) is_read)))
+        where
+          by : (name : Option (List ℕ)) → IsOfFile name (the_files.held old) bytes → IsToldFile name (the_files.held old) proto → bytes ≡ proto
+          by None of p = of ∙ sym p
+          by (Some name) of p = sym (subst (λ h. IfSome h (λ told. told ≡ bytes)) p of)
 
 -- the text that was read is the one that is told
 pub text_told : (told : Option (List ℕ)) (text bytes : List ℕ) (rose : Type 0) → told ≡ Some text

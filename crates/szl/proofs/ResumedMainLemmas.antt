@@ -25,7 +25,7 @@ use Rattle.sz_words.specs.Settings.{settings_in}
 use Rattle.szl.proofs.BehindLemmas.{words_fail}
 use Rattle.szl.proofs.ResumeLemmas.{nothing_answered}
 use Rattle.szl.specs.Promise.{names_asked, IsStatusOf, AppendsPrefix, GainsOutput, IsLeftAlone, GainsLine, OpensFiles, line_of}
-use Rattle.szl.specs.ResumePromise.{ByCommand, IfKnown, IsJobOutcome, IsStatusOnDisk, MeansJob, CompletesJob, KeepsJob, KeepsFound, KeepsJournal, IfRun}
+use Rattle.szl.specs.ResumePromise.{ByCommand, IfKnown, IsJobOutcome, IsStatusOnDisk, MeansJob, CompletesJob, KeepsJob, KeepsDisk, KeepsJournal, IfRun}
 use Rattle.szl.specs.ResumePromise.{free_status, line_on_disk, names_on_disk, IsByJournal}
 use Rattle.szl.specs.JournalRuns.{as_memory, AnswersJob}
 use Rattle.szl.specs.Judgement.{Reading, refused, spells}
@@ -260,21 +260,29 @@ module _ {F K : Type 0} (the_files : files.Ghosts F) (the_disk : disks.Ghosts K)
 pub keeps_under : {F K : Type 0} (the_files : files.Ghosts F) (the_disk : disks.Ghosts K) (s : RunSettings) (first later : Status) (old : F) (disk new : K)
     → (later ≡ status.Done → first ≡ status.Done) → KeepsJournal the_files the_disk s first old disk new
     → KeepsJournal the_files the_disk s later old disk new
-keeps_under the_files the_disk s first later old disk new done k text proto file reading t p file_read read input held i rests =
-    by file reading (k text proto file reading t p file_read read input held i rests)
+keeps_under the_files the_disk s first later old disk new done k = record {
+  entries = k.entries;
+  of_job = λ text proto file reading t p file_read read. (
+      let d = k.of_job text proto file reading t p file_read read in
+      record {
+        untouched = d.untouched;
+        entries = d.entries;
+        found = λ input held i rests. by text proto input held file reading (d.found input held i rests);
+      });
+}
   where
-    by : (file : FileReading) (reading : Reading)
+    by : (text proto input held : List ℕ) (file : FileReading) (reading : Reading)
         → IfRun s file reading (λ program slots. (before : List RoundEntry)
         → IsFound (name_of s text proto) (job_of program slots s) (source_of s input) held before
         → KeepsJob the_disk (name_of s text proto) (job_of program slots s) (source_of s input) held before first disk new)
         → IfRun s file reading (λ program slots. (before : List RoundEntry)
         → IsFound (name_of s text proto) (job_of program slots s) (source_of s input) held before
         → KeepsJob the_disk (name_of s text proto) (job_of program slots s) (source_of s input) held before later disk new)
-    by (bad_file f) reading h = tt
-    by (with_types types) (refused r) h = tt
-    by (with_types types) (spells ss) h = λ program slots is begun before found.
+    by text proto input held (bad_file f) reading h = tt
+    by text proto input held (with_types types) (refused r) h = tt
+    by text proto input held (with_types types) (spells ss) h = λ program slots is begun before found.
         let kept = h program slots is begun before found in
-        record { added = kept.added; stopped = kept.stopped; ended = λ e. kept.ended (done e) }
+        record { added = kept.added; small = kept.small; stopped = kept.stopped; ended = λ e. kept.ended (done e) }
 
 -- ---- by command
 

@@ -2,6 +2,7 @@
 use Rattle.std.specs.Prelude.{◌≡◌, ◌⊎◌, ℕ, ⊤, true, List, [], ◌∷◌, ◌++◌, length, Option, Some, None, IfSome, option_to_list, Ok}
 use Rattle.sz_io.specs.declared.files.Files as files
 use Rattle.sz_io.specs.declared.sink.Sink as sink
+use Rattle.sz_types.specs.Tables.{Declaration}
 use Rattle.sz_disk.specs.Crashes.{are_told}
 use Rattle.sz_disk.specs.declared.disk.Disk as disks
 use Rattle.sz_mean.specs.Marked.{Marked, all_tables}
@@ -18,10 +19,12 @@ use Rattle.sz_words.specs.declared.settings.Settings.TheVariants.{Resume}
 use Rattle.sz_attempt.specs.declared.job.Job.{Job}
 use Rattle.sz_journal_format.specs.declared.job.JobBytes.{JobBytes}
 use Rattle.sz_journal_format.specs.declared.round.RoundEntry.{RoundEntry}
-use Rattle.sz_journal_rules.specs.Journals.{Standing, Stands}
-use Rattle.sz_gates.specs.Crashing.{Rests}
+use Rattle.sz_journal_format.specs.Rounds.{last_progress}
+use Rattle.sz_journal_rules.specs.Journals.{Standing, Stands, Spells}
+use Rattle.sz_gates.specs.Crashing.{Rests, LeavesOnly}
+use Rattle.sz_gates.specs.Entries.{IsEmpty}
 use Rattle.sz_resume.specs.Standing.{Source, IsFound}
-use Rattle.sz_resume.specs.Stops.{LeavesRounds, HoldsAll}
+use Rattle.sz_resume.specs.Stops.{AreSmall, LeavesRounds, HoldsAll}
 use Rattle.szl.specs.declared.status.Status.{Status}
 use Rattle.szl.specs.declared.status.Status.TheVariants as status
 use Rattle.szl.specs.Answers.{Answer, disk_failed_line}
@@ -31,7 +34,6 @@ use Rattle.szl.specs.ProtoFiles.{IsFileRead, IsOfFile}
 use Rattle.szl.specs.Promise.{IfRead, IsStatusOf, GainsOutput, IsLeftAlone, GainsLine, OpensFiles, line_of, names_asked}
 use Rattle.szl.specs.Records.{Cut, IsCutInto}
 use Rattle.szl.specs.Resuming.{name_of, source_of, unless_journal, outcome_of_resume}
-use Rattle.szl.specs.Shards.{job_of}
 use Rattle.szl.specs.Savable.{savable}
 use Rattle.szl.specs.Shards.{job_of}
 
@@ -70,7 +72,7 @@ pub record IsBehind (s : RunSettings) (IfSo : (Marked → List Slot → Type 0) 
       → IsFound name (job_of program slots s) (source_of s bytes) held rounds → rest ≡ outcome_of_statics program s cut (Done slots))
 
 -- The outcome by a journal and by an input, where they hold these bytes if they tell them; `outcome_by` has the causes that come before. What the journal
--- is for the job is said where that is known; and where the input doesn't tell its bytes, it is as if it held some
+-- is for the job is said where that is known. Where the input or the journal doesn't tell its bytes, of the answer behind the journal its form alone is said
 pub record IsByJournal (s : RunSettings) (IfSo : (Marked → List Slot → Type 0) → Type 0) (name : JobBytes)
     (outcome_by : (Answer → Answer) → Answer → Answer) (told journal : Option (List ℕ)) (Known : Type 0 → Type 0) (outcome : Answer) : Type 0 where
   pub input : List ℕ
@@ -92,7 +94,8 @@ free_status status = status
 abbrev pub IfKnown : Status → Type 0 → Type 0
 IfKnown status fact = IfRead (free_status status) fact
 
--- The outcome of a job that is resumed, for the bytes that the files and the disk hold. Where a file doesn't tell its bytes, it is as if it held some
+-- The outcome of a job that is resumed, for the bytes that the files and the disk hold. Where the program or the file of types doesn't tell its bytes, it is
+-- as if it held some. Where the input or the disk doesn't, the answer behind the journal has its form alone
 pub record IsJobOutcome {F K : Type 0} (the_files : files.Ghosts F) (the_disk : disks.Ghosts K) (s : RunSettings) (status : Status) (files : F) (disk : K)
     (outcome : Answer) : Type 0 where
   pub proto : List ℕ
@@ -134,10 +137,11 @@ pub record CompletesJob {F O E K : Type 0} (the_files : files.Ghosts F) (the_out
   pub status_is : (st ≡ status.NoMemory) ⊎ (st ≡ means.outcome.status)
 
 -- What a crash leaves of the journal of a job, which is one that calls of the job may find, with these rounds: at any moment of the call, and where it
--- came to its end
+-- came to its end. Each round that the call adds has at most 4,096 shards
 pub record KeepsJob {K : Type 0} (the_disk : disks.Ghosts K) (name : JobBytes) (job : Job) (source : Source) (held : List ℕ) (before : List RoundEntry)
     (st : Status) (disk new_disk : K) : Type 0 where
   pub added : List RoundEntry
+  pub small : AreSmall (last_progress before) added
   pub stopped : are_told (the_disk.may_leave disk) ≡ true → LeavesRounds the_disk.time the_disk.left_since disk new_disk name job source held before added
   pub ended : st ≡ status.Done → HoldsAll (the_disk.bytes new_disk) (the_disk.may_leave new_disk) name job source (before ++ added)
 
@@ -149,14 +153,51 @@ KeepsFound the_disk s IfSo name told status disk new_disk =
     → IfSo (λ program slots. (before : List RoundEntry) → IsFound name (job_of program slots s) (source_of s input) held before
     → KeepsJob the_disk name (job_of program slots s) (source_of s input) held before status disk new_disk)
 
+-- Both spell a job with such a name, the second one with the rounds of the first and others after them. The first may have no entry, and then it has no
+-- rounds
+pub record SpellsOn (IsName : JobBytes → Type 0) (held image : List ℕ) : Type 0 where
+  pub name : JobBytes
+  pub is_name : IsName name
+  pub decls : List Declaration
+  pub before : List RoundEntry
+  pub more : List RoundEntry
+  pub was : (IsEmpty held × (before ≡ [])) ⊎ Spells name decls held before
+  pub is : Spells name decls image (before ++ more)
+
+-- No round is lost: what is left is what was held; or neither has an entry; or it spells a job with the rounds that were there, and others after them
+abbrev pub LosesNothing : (JobBytes → Type 0) → (held image : List ℕ) → Type 0
+LosesNothing IsName held image = (image ≡ held) ⊎ ((IsEmpty held × IsEmpty image) ⊎ SpellsOn IsName held image)
+
+-- whatever a crash during the call might have left of the disk loses nothing of what it held, whatever the files hold
+abbrev pub KeepsEntries : {K : Type 0} → disks.Ghosts K → (JobBytes → Type 0) → K → K → Type 0
+KeepsEntries the_disk IsName disk new_disk =
+    (held : List ℕ) → Rests (the_disk.bytes disk) (the_disk.may_leave disk) held → are_told (the_disk.may_leave disk) ≡ true
+    → LeavesOnly the_disk.time the_disk.left_since disk new_disk (LosesNothing IsName held)
+
+-- What a call leaves of the disk: it isn't called where there is no program that can be run, with statics; a journal that isn't one of a job with this
+-- name is left as it is; and what is kept of one that calls of the job may find
+pub record KeepsDisk {K : Type 0} (the_disk : disks.Ghosts K) (s : RunSettings) (IfSo : (Marked → List Slot → Type 0) → Type 0) (name : JobBytes)
+    (told : Option (List ℕ)) (status : Status) (disk new_disk : K) : Type 0 where
+  pub untouched : IfSo (λ program slots. ⊥) → new_disk ≡ disk
+  pub entries : KeepsEntries the_disk (λ other. other ≡ name) disk new_disk
+  pub found : KeepsFound the_disk s IfSo name told status disk new_disk
+
+-- what the words ask for makes this name, with some texts of the program and of the file of types
+pub record IsNameFor (s : RunSettings) (name : JobBytes) : Type 0 where
+  pub program : List ℕ
+  pub proto : List ℕ
+  pub is : name ≡ name_of s program proto
+
 -- the file of this name tells that it has these bytes; without a name there are none
 abbrev pub IsToldFile : Option (List ℕ) → (List ℕ → Option (List ℕ)) → List ℕ → Type 0
 IsToldFile None held bytes = bytes ≡ []
 IsToldFile (Some name) held bytes = held name ≡ Some bytes
 
--- the same of the job that the words ask for, where the files tell their bytes
-abbrev pub KeepsJournal : {F K : Type 0} → files.Ghosts F → disks.Ghosts K → RunSettings → Status → F → K → K → Type 0
-KeepsJournal the_files the_disk s status files disk new_disk =
-    (text proto : List ℕ) (file : FileReading) (reading : Reading) → the_files.held files s.program ≡ Some text
-    → IsToldFile s.proto (the_files.held files) proto → IsFileRead proto file → IsRead text reading
-    → KeepsFound the_disk s (IfRun s file reading) (name_of s text proto) (the_files.held files s.input) status disk new_disk
+-- What a call leaves of the disk for the job that the words ask for: it loses nothing; and where the files tell their bytes, it keeps the journal of
+-- this job, and isn't called without a program that can be run
+pub record KeepsJournal {F K : Type 0} (the_files : files.Ghosts F) (the_disk : disks.Ghosts K) (s : RunSettings) (status : Status) (files : F)
+    (disk new_disk : K) : Type 0 where
+  pub entries : KeepsEntries the_disk (IsNameFor s) disk new_disk
+  pub of_job : (text proto : List ℕ) (file : FileReading) (reading : Reading) → the_files.held files s.program ≡ Some text
+      → IsToldFile s.proto (the_files.held files) proto → IsFileRead proto file → IsRead text reading
+      → KeepsDisk the_disk s (IfRun s file reading) (name_of s text proto) (the_files.held files s.input) status disk new_disk

@@ -7,7 +7,8 @@ ghost use Rattle.sz_core.specs.Sound.{IsSound};
 ghost use Rattle.sz_mean.specs.Marked.{marked, all_tables};
 ghost use Rattle.sz_save.specs.Saving.{HaveSpelling, state_of_emits};
 ghost use Rattle.sz_attempt.specs.Shards.{IsJob};
-ghost use Rattle.sz_gates.specs.Crashing.{Rests, DoesNotFall};
+ghost use Rattle.sz_disk.specs.Crashes.{are_told};
+ghost use Rattle.sz_gates.specs.Crashing.{Rests, LeavesOnly, DoesNotFall};
 ghost use Rattle.sz_journal.specs.Journal.{rounds_of, IsOf};
 ghost use Rattle.sz_journal_format.specs.declared.job.JobBytes.{JobBytes};
 ghost use Rattle.sz_print.specs.Tables.{lists_text, tables_text};
@@ -16,6 +17,7 @@ ghost use Rattle.sz_types.specs.Tables.{Declaration};
 ghost use Rattle.sz_protofile_laws.specs.Sound.{AreSound};
 ghost use Rattle.sz_resume.specs.Standing.{IsFound};
 ghost use Rattle.sz_resume.specs.Runs.{IsJournalOf, HasJournal};
+ghost use Rattle.sz_resume.specs.Stops.{SpellsMore};
 ghost use Rattle.sz_words.specs.Bounds.{HasBounds, IsBounded};
 ghost use Rattle.sz_words.specs.Settings.{settings_in};
 ghost use Rattle.sz_words.specs.declared.settings.Settings.TheVariants.{Resume};
@@ -25,7 +27,7 @@ ghost use Rattle.szl.specs.Opening.{Answers, status_of_answer};
 ghost use Rattle.szl.specs.ProgramRuns.{CanSave, vec_items_of};
 ghost use Rattle.szl.specs.Promise.{AreReadToEnd, most_before};
 ghost use Rattle.szl.specs.ProtoReads.{HaveTypeBytes};
-ghost use Rattle.szl.specs.ResumePromise.{ByCommand, IfSpelled, IsJobOutcome, KeepsFound, KeepsJob, KeepsJournal, names_on_disk};
+ghost use Rattle.szl.specs.ResumePromise.{ByCommand, IfSpelled, IsJobOutcome, IsNameFor, KeepsDisk, KeepsEntries, KeepsJob, KeepsJournal, names_on_disk};
 ghost use Rattle.szl.specs.Resuming.{name_of, source_of, triple_of};
 ghost use Rattle.szl.specs.Saving.{HasSaved, IfSaving};
 
@@ -136,8 +138,9 @@ fn resume_with<R: Threads + Sync, F: Files, G: Gate + Sync, K: Disk>(
         (settings.now.program ∷ settings.now.input ∷ []) (λ n. n) files.old files.new (vec_items_of result) }
     ensures end { OnOk result (AreReadToEnd F.Files files.old files.new (settings.now.program ∷ settings.now.input ∷ [])) }
     ensures stopped { (text : List ℕ) (reading : Reading) → F.held files.old settings.now.program ≡ Some text → IsRead text reading
-        → KeepsFound K.Disk settings.now (IfSpelled settings.now proto.now.types reading) (name_of settings.now text proto.now.bytes.items)
+        → KeepsDisk K.Disk settings.now (IfSpelled settings.now proto.now.types reading) (name_of settings.now text proto.now.bytes.items)
         (F.held files.old settings.now.input) (status_of_answer (vec_items_of result)) disk.old disk.new }
+    ensures entries { KeepsEntries K.Disk (IsNameFor settings.now) disk.old disk.new }
 
     ensures disk_failed { IsErrOf result Failure.DiskFailed → Rose (K.faults disk.old) (K.faults disk.new) }
 
@@ -172,8 +175,9 @@ fn resume_text<R: Threads + Sync, F: Files, G: Gate + Sync, K: Disk>(
     ensures end { OnOk result (ReadToEnd F.Files files.old files.new settings.now.input) }
     ensures names { OnOk result (F.names files.new ≡ F.names files.old ++ settings.now.input ∷ []) }
     ensures stopped { (reading : Reading) → IsRead text.now reading
-        → KeepsFound K.Disk settings.now (IfSpelled settings.now proto.now.types reading) (name_of settings.now text.now proto.now.bytes.items)
+        → KeepsDisk K.Disk settings.now (IfSpelled settings.now proto.now.types reading) (name_of settings.now text.now proto.now.bytes.items)
         (F.held files.old settings.now.input) (status_of_answer (vec_items_of result)) disk.old disk.new }
+    ensures entries { KeepsEntries K.Disk (IsNameFor settings.now) disk.old disk.new }
 
     ensures disk_failed { IsErrOf result Failure.DiskFailed → Rose (K.faults disk.old) (K.faults disk.new) }
 
@@ -210,7 +214,7 @@ fn resume_program<R: Threads + Sync, F: Files, G: Gate + Sync, K: Disk>(
         (F.held files.old settings.now.input) (K.bytes disk.old)) (settings.now.input ∷ []) but_one files.old files.new (vec_items_of result) }
     ensures end { OnOk result (ReadToEnd F.Files files.old files.new settings.now.input) }
     ensures names { OnOk result (F.names files.new ≡ F.names files.old ++ settings.now.input ∷ []) }
-    ensures stopped { KeepsFound K.Disk settings.now (IfBegun settings.now (marked program settings.now.ignore_undefs)) bytes.now
+    ensures stopped { KeepsDisk K.Disk settings.now (IfBegun settings.now (marked program settings.now.ignore_undefs)) bytes.now
         (F.held files.old settings.now.input) (status_of_answer (vec_items_of result)) disk.old disk.new }
 
     ensures disk_failed { IsErrOf result Failure.DiskFailed → Rose (K.faults disk.old) (K.faults disk.new) }
@@ -264,6 +268,9 @@ fn text_behind<R: Threads + Sync, F: Files, G: Gate + Sync, K: Disk>(
         → IsFound name job.now (source_of settings.now input) held (rounds_of journal.old)
         → KeepsJob K.Disk name job.now (source_of settings.now input) held (rounds_of journal.old) (status_of_answer (vec_items_of result)) disk.old
         disk.new }
+    ensures entries { (name : JobBytes) (held : List ℕ) → Rests (K.bytes disk.old) (K.may_leave disk.old) held → are_told (K.may_leave disk.old) ≡ true
+        → IsJournalOf name job.now journal.old (K.bytes disk.old)
+        → LeavesOnly K.time K.left_since disk.old disk.new (SpellsMore name (all_tables job.now.compiled) (rounds_of journal.old)) }
 
     ensures disk_failed { IsErrOf result Failure.DiskFailed → Rose (K.faults disk.old) (K.faults disk.new) }
 

@@ -119,8 +119,8 @@ pub fn szl_disk_main<R: Threads + Sync, F: Files, O: Sink, E: Sink, G: Gate + Sy
     ensures write_failed { result ≡ Status.WriteFailed → Rose (O.faults out.old) (O.faults out.new) }
     ensures disk_failed { result ≡ Status.DiskFailed → Rose (K.faults disk.old) (K.faults disk.new) }
     ensures complete { (Rose (F.faults files.old) (F.faults files.new) → ⊥) → (Rose (O.faults out.old) (O.faults out.new) → ⊥)
-        → (Rose (K.faults disk.old) (K.faults disk.new) → ⊥) → ByCommand (settings_in (map string_bytes words.now))
-        (λ s. CompletesJob F.Files O.Sink E.Sink K.Disk s result files.old files.new out.old out.new err.old err.new disk.old)
+        → ByCommand (settings_in (map string_bytes words.now)) (λ s. (Rose (K.faults disk.old) (K.faults disk.new) → ⊥)
+        → CompletesJob F.Files O.Sink E.Sink K.Disk s result files.old files.new out.old out.new err.old err.new disk.old)
         (Completes F.Files O.Sink E.Sink (map string_bytes words.now) result files.old files.new out.old out.new err.old err.new) }
 
     ensures kept { KeepsFiles F.held F.left F.given F.faults files.old files.new }

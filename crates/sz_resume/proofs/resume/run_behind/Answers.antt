@@ -6,21 +6,21 @@ use Rattle.sz_journal_format.specs.Rounds.{last_progress}
 use Rattle.sz_journal.specs.Journal.{rounds_of}
 use Rattle.sz_rounds.specs.Outcomes.{outcome_from}
 use Rattle.sz_rounds.specs.Rounds.{shards_of}
+use Rattle.sz_stream.specs.declared.stop.Stop.TheVariants as stops
 use Rattle.sz_resume.specs.declared.halt.Halt.TheVariants as halts
 use Rattle.sz_resume.specs.Halts.{of_file}
 use Rattle.sz_resume.specs.Standing.{Source}
 use Rattle.sz_resume.specs.Turns.{rest_from, StopsHalt}
 use Rattle.sz_stream.proofs.ReachLemmas.{keeps_on}
-use Rattle.sz_resume.proofs.LeaveLemmas.{leaves_nothing}
+use Rattle.sz_resume.proofs.LeaveLemmas.{leaves_nothing, entries_none, entries_both}
+use Rattle.sz_resume.proofs.NumberLemmas.{small_more}
 use Rattle.sz_resume.proofs.TurnLemmas.{found_stands, stands_more}
-use Rattle.sz_resume.proofs.WayLemmas.{rest_told, way_starts, can_read, way_filled, few_first, has_next, way_over, way_ends, way_holds, way_halts, way_told, way_rises, way_on, way_unread, not_short, not_disk, on_any, keeps_at, so_not_short, so_not_disk, so_not_unread, way_leaves, none_not}
+use Rattle.sz_resume.proofs.WayLemmas.{rest_told, way_starts, can_read, way_filled, few_first, has_next, way_over, way_ends, way_holds, way_halts, way_told, way_rises, way_on, way_unread, not_short, not_disk, on_any, spelled_at, keeps_at, so_not, way_leaves, none_not}
 use Rattle.sz_resume.proofs.resume.run_behind.Goals as goal
 
 -- nothing was read
 pub loop-intake-init : goal.loop-intake-init
 loop-intake-init g c =
-    let job = c.args.job.now in
-    let s = c.args.settings.now in
     let rounds = rounds_of c.args.journal.now in
     let disk = c.args.disk.now in
     record {
@@ -28,18 +28,15 @@ loop-intake-init g c =
       room = c.requires.room;
       rises = omega arith;
       behind =
-          way_starts job s.frame s.shard rounds c.args.done c.behind-intake.result (g.F.Files.left c.args.files.now c.args.file) c.requires.shard c.requires.done
+          way_starts rounds c.args.done c.behind-intake.result (g.F.Files.left c.args.files.now c.args.file) c.requires.shard c.requires.done
           c.requires.can c.requires.passed c.behind-intake.ensures.empty;
       journal_is = λ name j. j;
-      grows = ([], sym (append-nil rounds));
+      grows = ([], sym (append-nil rounds), tt);
       stands = λ input told all. all;
-      keeps = λ name held rests j. keeps_at name job c.args.journal.now (g.K.Disk.bytes disk) (g.K.Disk.may_leave disk) held rests j;
-      stopped = λ input held name told rests is_told j stands. (
-        [],
-        leaves_nothing name job (record { frame = s.frame; most = s.shard; bytes = input }) g.K.Disk.time g.K.Disk.left_since g.K.Disk.may_leave g.K.Disk.faults
-            (g.K.Disk.bytes disk) disk held rounds (g.met.K.Disk.only_now disk) rests is_told stands,
-        sym (append-nil rounds),
-      );
+      keeps = λ name held rests j. keeps_at rests j;
+      entries = λ name held rests is_told j. entries_none (g.met.K.Disk.only_now disk) rests is_told (spelled_at rests.read j);
+      stopped = λ input held name told rests is_told j stands.
+          ([], leaves_nothing (g.met.K.Disk.only_now disk) rests is_told stands, sym (append-nil rounds));
       told = refl;
       kept = search rules;
       faults = falls_not_refl (g.K.Disk.faults disk);
@@ -47,9 +44,7 @@ loop-intake-init g c =
 
 -- pieces can be read
 pub fill_round-requires-clause-can_read : goal.fill_round-requires-clause-can_read
-fill_round-requires-clause-can_read g c =
-    let s = c.args.settings.now in
-    can_read c.args.job.now s.frame s.shard (rounds_of c.loop-intake.journal) c.loop-intake.intake _ _ c.loop-intake.invariant.behind
+fill_round-requires-clause-can_read g c = can_read c.loop-intake.invariant.behind
 
 -- what stands behind the rounds
 pub ended-requires-clause-are : goal.ended-requires-clause-are
@@ -59,56 +54,47 @@ ended-requires-clause-are g c =
 -- the answer where no shard is left
 pub returns-in-Some-clause-value : goal.returns-in-Some-clause-value
 returns-in-Some-clause-value g c input told all =
-    let s = c.args.settings.now in
     let inv = c.loop-intake.invariant in
     let rounds = rounds_of c.loop-intake.journal in
     let left = g.F.Files.left c.args.files.now c.args.file in
-    let b = way_filled c.args.job.now s.frame s.shard rounds c.loop-intake.intake _ _ inv.behind c.fill_round.new.intake
-    (g.F.Files.left c.fill_round.new.files c.args.file) c.in_ok-fill_round.ensures.ok c.in_ok-fill_round.ensures.first
-    c.in_ok-fill_round.ensures.first_shard in
-    way_ends c.args.job.now s.frame s.shard rounds c.fill_round.new.intake _ _ b c.in_ok-fill_round.ensures.ready c.in-Some.ending
-    (sym c.end.ensures.value ∙ c.in-Some.is) input
+    let f = c.in_ok-fill_round.ensures in
+    let b = way_filled inv.behind c.fill_round.new.intake (g.F.Files.left c.fill_round.new.files c.args.file) f.ok f.first f.first_shard in
+    way_ends b f.ready (sym c.end.ensures.value ∙ c.in-Some.is) input
     (rest_told left input (last_progress (rounds_of c.args.journal.now)).bytes (last_progress rounds).bytes inv.rises told) c.args.journal.now
     (inv.stands input told all) c.ended.result c.ended.ensures.value
 
 pub returns-in-Some-clause-end : goal.returns-in-Some-clause-end
 returns-in-Some-clause-end g c =
-    let s = c.args.settings.now in
     let inv = c.loop-intake.invariant in
-    let rounds = rounds_of c.loop-intake.journal in
-    let b = way_filled c.args.job.now s.frame s.shard rounds c.loop-intake.intake _ _ inv.behind c.fill_round.new.intake
-    (g.F.Files.left c.fill_round.new.files c.args.file) c.in_ok-fill_round.ensures.ok c.in_ok-fill_round.ensures.first
-    c.in_ok-fill_round.ensures.first_shard in
-    way_over c.args.job.now s.frame s.shard rounds c.fill_round.new.intake _ _ b c.in_ok-fill_round.ensures.ready c.in-Some.ending
-    (sym c.end.ensures.value ∙ c.in-Some.is) c.ended.result c.ended.ensures.value
+    let f = c.in_ok-fill_round.ensures in
+    let b = way_filled inv.behind c.fill_round.new.intake (g.F.Files.left c.fill_round.new.files c.args.file) f.ok f.first f.first_shard in
+    way_over b f.ready (sym c.end.ensures.value ∙ c.in-Some.is) c.ended.result c.ended.ensures.value
 
 pub returns-in-Some-clause-told : goal.returns-in-Some-clause-told
 returns-in-Some-clause-told g c =
-    let s = c.args.settings.now in
     let inv = c.loop-intake.invariant in
     let rounds = rounds_of c.loop-intake.journal in
     let left = g.F.Files.left c.args.files.now c.args.file in
-    let b = way_filled c.args.job.now s.frame s.shard rounds c.loop-intake.intake _ _ inv.behind c.fill_round.new.intake
-    (g.F.Files.left c.fill_round.new.files c.args.file) c.in_ok-fill_round.ensures.ok c.in_ok-fill_round.ensures.first
-    c.in_ok-fill_round.ensures.first_shard in
-    on_any c.ended.result _ (way_told c.args.job.now s.frame s.shard rounds c.fill_round.new.intake _ _ b left
-    ((last_progress rounds).bytes - (last_progress (rounds_of c.args.journal.now)).bytes) refl)
+    let f = c.in_ok-fill_round.ensures in
+    let b = way_filled inv.behind c.fill_round.new.intake (g.F.Files.left c.fill_round.new.files c.args.file) f.ok f.first f.first_shard in
+    on_any c.ended.result _ (way_told b left ((last_progress rounds).bytes - (last_progress (rounds_of c.args.journal.now)).bytes) refl)
 
 pub returns-in-Some-clause-grows : goal.returns-in-Some-clause-grows
 returns-in-Some-clause-grows g c = on_any c.ended.result _ c.loop-intake.invariant.grows
 
 pub returns-in-Some-clause-long : goal.returns-in-Some-clause-long
 returns-in-Some-clause-long g c gate is =
-    so_not_short (all_tables c.args.job.now.compiled) (rounds_of c.loop-intake.journal) c.in-Some.ending c.ended.result c.ended.ensures.value gate is
+    so_not (all_tables c.args.job.now.compiled) (rounds_of c.loop-intake.journal) c.in-Some.ending c.ended.result (halts.Short gate) c.ended.ensures.value is
 
 pub returns-in-Some-clause-failed : goal.returns-in-Some-clause-failed
 returns-in-Some-clause-failed g c is =
     absurd
-    (so_not_unread (all_tables c.args.job.now.compiled) (rounds_of c.loop-intake.journal) c.in-Some.ending c.ended.result c.ended.ensures.value is)
+    (so_not (all_tables c.args.job.now.compiled) (rounds_of c.loop-intake.journal) c.in-Some.ending c.ended.result (halts.Stopped stops.ReadFailed) c.ended.ensures.value is)
 
 pub returns-in-Some-clause-disk_failed : goal.returns-in-Some-clause-disk_failed
 returns-in-Some-clause-disk_failed g c is =
-    absurd (so_not_disk (all_tables c.args.job.now.compiled) (rounds_of c.loop-intake.journal) c.in-Some.ending c.ended.result c.ended.ensures.value is)
+    absurd
+    (so_not (all_tables c.args.job.now.compiled) (rounds_of c.loop-intake.journal) c.in-Some.ending c.ended.result halts.DiskFailed c.ended.ensures.value is)
 
 pub returns-in-Some-clause-stopped : goal.returns-in-Some-clause-stopped
 returns-in-Some-clause-stopped g c input held name told rests is_told j stands =
@@ -122,12 +108,10 @@ returns-in-Some-clause-ended g c input held name told rests j stands =
     let rounds = rounds_of c.loop-intake.journal in
     let left = g.F.Files.left c.args.files.now c.args.file in
     let disk = c.loop-intake.disk in
-    let b = way_filled c.args.job.now s.frame s.shard rounds c.loop-intake.intake _ _ inv.behind c.fill_round.new.intake
-    (g.F.Files.left c.fill_round.new.files c.args.file) c.in_ok-fill_round.ensures.ok c.in_ok-fill_round.ensures.first
-    c.in_ok-fill_round.ensures.first_shard in
+    let f = c.in_ok-fill_round.ensures in
+    let b = way_filled inv.behind c.fill_round.new.intake (g.F.Files.left c.fill_round.new.files c.args.file) f.ok f.first f.first_shard in
     let all = found_stands c.args.job.now (record { frame = s.frame; most = s.shard; bytes = input }) name held first (inr stands) in
-    on_any c.ended.result _ (way_holds c.args.job.now s.frame s.shard rounds c.fill_round.new.intake _ _ b c.in_ok-fill_round.ensures.ready c.in-Some.ending
-    (sym c.end.ensures.value ∙ c.in-Some.is) input
+    on_any c.ended.result _ (way_holds b f.ready (sym c.end.ensures.value ∙ c.in-Some.is) input
     (rest_told left input (last_progress first).bytes (last_progress rounds).bytes inv.rises told) c.args.journal.now (inv.stands input told all) name held
     first stands (g.K.Disk.bytes disk) (g.K.Disk.may_leave disk) (inv.keeps name held rests j))
 
@@ -169,20 +153,15 @@ run_next-requires-clause-journal g c κs within =
 
 pub run_next-requires-clause-next : goal.run_next-requires-clause-next
 run_next-requires-clause-next g c κs within =
-    let s = c.args.settings.now in
     let inv = c.loop-intake.invariant in
-    let rounds = rounds_of c.loop-intake.journal in
-    let b = way_filled c.args.job.now s.frame s.shard rounds c.loop-intake.intake _ _ inv.behind c.fill_round.new.intake
-    (g.F.Files.left c.fill_round.new.files c.args.file) c.in_ok-fill_round.ensures.ok c.in_ok-fill_round.ensures.first
-    c.in_ok-fill_round.ensures.first_shard in
-    has_next c.args.job.now s.frame s.shard rounds c.fill_round.new.intake _ _ b c.in_ok-fill_round.ensures.ready
-    (sym c.end.ensures.value ∙ none_not c.end.result c.in_default.not-Some)
+    let f = c.in_ok-fill_round.ensures in
+    let b = way_filled inv.behind c.fill_round.new.intake (g.F.Files.left c.fill_round.new.files c.args.file) f.ok f.first f.first_shard in
+    has_next b f.ready (sym c.end.ensures.value ∙ none_not c.end.result c.in_default.not-Some)
 
 -- fewer records are left
 pub loop-intake-smaller : goal.loop-intake-smaller
 loop-intake-smaller g c =
-    let s = c.args.settings.now in
-    let few = few_first c.args.job.now s.frame s.shard (rounds_of c.loop-intake.journal) c.loop-intake.intake _ _ c.loop-intake.invariant.behind in
+    let few = few_first c.loop-intake.invariant.behind in
     let first = c.in_ok-fill_round.ensures.first in
     let further = c.in_ok-run_next.ensures.ok.further in
     omega (arith, few, first, further)
@@ -201,37 +180,39 @@ loop-intake-preserved g c =
     let from = (last_progress first).bytes in
     let start = rest_from ((last_progress rounds).bytes - from) left in
     let mid = c.fill_round.new.intake in
-    let b = way_filled job s.frame s.shard rounds c.loop-intake.intake start (g.F.Files.left c.loop-intake.files file) inv.behind mid now
-    c.in_ok-fill_round.ensures.ok c.in_ok-fill_round.ensures.first c.in_ok-fill_round.ensures.first_shard in
+    let f = c.in_ok-fill_round.ensures in
+    let b = way_filled inv.behind mid now f.ok f.first f.first_shard in
     let ok = c.in_ok-run_next.ensures.ok in
     record {
       given = subst IsTrue (sym (c.fill_round.ensures.kept.given_same file)) inv.given;
       room = (let same = c.fill_round.ensures.room in omega (arith, same, inv.room));
-      rises =
-          way_rises job s.frame s.shard rounds mid start now b left (rounds_of c.run_next.new.journal) c.run_next.new.intake ok from inv.rises;
-      behind =
-          way_on job s.frame s.shard rounds mid start now b left (rounds_of c.run_next.new.journal) c.run_next.new.intake ok from inv.rises refl;
+      rises = way_rises b left ok from inv.rises;
+      behind = way_on b left ok from inv.rises refl;
       journal_is = λ name j. c.in_ok-run_next.ensures.journal name (inv.journal_is name j);
       grows = (
         inv.grows.0 ++ ok.round ∷ [],
         ok.is ∙ ap (λ rs. rs ++ ok.round ∷ []) inv.grows.1 ∙ append_assoc first inv.grows.0 (ok.round ∷ []),
+        small_more first rounds inv.grows.0 ok.round inv.grows.1 inv.grows.2 ok.small,
       );
       stands = λ input told all.
           c.in_ok-run_next.ensures.stands (record { frame = s.frame; most = s.shard; bytes = input }) start now b
           (rest_told left input from (last_progress rounds).bytes inv.rises told) (inv.stands input told all);
       keeps = λ name held rests j. (
           let k = inv.keeps name held rests j in c.in_ok-run_next.ensures.keeps name k.held k.rests.read (inv.journal_is name j));
+      entries = λ name held rests is_told j. (
+          let k = inv.keeps name held rests j in
+          entries_both name (all_tables job.compiled) first inv.grows.0 inv.grows.1 (inv.entries name held rests is_told j)
+          (c.run_next.ensures.entries name k.held k.rests (inv.told ∙ is_told) (inv.journal_is name j)));
       stopped = λ input held name told rests is_told j stands. (
           let source : Source = record { frame = s.frame; most = s.shard; bytes = input } in
           let t = inv.stopped input held name told rests is_told j stands in
           let k = inv.keeps name held rests j in
           let all = inv.stands input told (found_stands job source name held first (inr stands)) in
-          let u = c.in_ok-run_next.ensures.stopped name source k.held start now b
+          let u = c.in_ok-run_next.ensures.stopped name source k.held _ _ b
           (rest_told left input from (last_progress rounds).bytes inv.rises told) (stands_more job source name held k.held first rounds stands all k.spells)
           k.rests (inv.told ∙ is_told) (inv.journal_is name j) in (
             t.0 ++ u.0,
-            way_leaves name job source g.K.Disk.time g.K.Disk.left_since c.args.disk.now c.loop-intake.disk c.run_next.new.disk held k.held first rounds t.0 u.0
-                t.2 k.spells t.1 u.1,
+            way_leaves t.2 k.spells t.1 u.1,
             u.2 ∙ ap (λ rs. rs ++ u.0) t.2 ∙ append_assoc first t.0 u.0,
           ));
       told = c.run_next.ensures.told ∙ inv.told;
@@ -247,14 +228,12 @@ loop-intake-preserved g c =
 pub returns-in_err-run_next-clause-value : goal.returns-in_err-run_next-clause-value
 returns-in_err-run_next-clause-value g c input told all =
     let p = err_from_is_err_and c.from_residual-in_err-run_next.result c.from_residual-in_err-run_next.ensures.1 in
-    let s = c.args.settings.now in
     let inv = c.loop-intake.invariant in
     let rounds = rounds_of c.loop-intake.journal in
     let left = g.F.Files.left c.args.files.now c.args.file in
-    let b = way_filled c.args.job.now s.frame s.shard rounds c.loop-intake.intake _ _ inv.behind c.fill_round.new.intake
-    (g.F.Files.left c.fill_round.new.files c.args.file) c.in_ok-fill_round.ensures.ok c.in_ok-fill_round.ensures.first
-    c.in_ok-fill_round.ensures.first_shard in
-    rw (p.1, p.2) (way_halts c.args.job.now s.frame s.shard rounds c.fill_round.new.intake _ _ b input
+    let f = c.in_ok-fill_round.ensures in
+    let b = way_filled inv.behind c.fill_round.new.intake (g.F.Files.left c.fill_round.new.files c.args.file) f.ok f.first f.first_shard in
+    rw (p.1, p.2) (way_halts b input
     (rest_told left input (last_progress (rounds_of c.args.journal.now)).bytes (last_progress rounds).bytes inv.rises told) c.args.journal.now
     (inv.stands input told all) c.in_err-run_next.field-0.0 c.in_err-run_next.ensures.err)
 
@@ -267,29 +246,31 @@ returns-in_err-run_next-clause-long g c gate is =
     let mid = c.fill_round.new.intake in
     subst (StopsHalt (outcome_from c.args.job.now mid.round.passed (shards_of mid.round))) same c.in_err-run_next.ensures.err
 
+pub returns-in_err-run_next-clause-entries : goal.returns-in_err-run_next-clause-entries
+returns-in_err-run_next-clause-entries g c name held rests is_told j =
+    let inv = c.loop-intake.invariant in
+    let k = inv.keeps name held rests j in
+    entries_both name (all_tables c.args.job.now.compiled) (rounds_of c.args.journal.now) inv.grows.0 inv.grows.1 (inv.entries name held rests is_told j)
+    (c.run_next.ensures.entries name k.held k.rests (inv.told ∙ is_told) (inv.journal_is name j))
+
 pub returns-in_err-run_next-clause-stopped : goal.returns-in_err-run_next-clause-stopped
 returns-in_err-run_next-clause-stopped g c input held name told rests is_told j stands =
     let p = err_from_is_err_and c.from_residual-in_err-run_next.result c.from_residual-in_err-run_next.ensures.1 in
     let job = c.args.job.now in
     let s = c.args.settings.now in
-    let file = c.args.file in
     let inv = c.loop-intake.invariant in
     let first = rounds_of c.args.journal.now in
     let rounds = rounds_of c.loop-intake.journal in
-    let left = g.F.Files.left c.args.files.now file in
-    let now = g.F.Files.left c.fill_round.new.files file in
-    let from = (last_progress first).bytes in
-    let start = rest_from ((last_progress rounds).bytes - from) left in
-    let b = way_filled job s.frame s.shard rounds c.loop-intake.intake start (g.F.Files.left c.loop-intake.files file) inv.behind c.fill_round.new.intake now
-    c.in_ok-fill_round.ensures.ok c.in_ok-fill_round.ensures.first c.in_ok-fill_round.ensures.first_shard in
+    let left = g.F.Files.left c.args.files.now c.args.file in
+    let f = c.in_ok-fill_round.ensures in
+    let b = way_filled inv.behind c.fill_round.new.intake (g.F.Files.left c.fill_round.new.files c.args.file) f.ok f.first f.first_shard in
     let source : Source = record { frame = s.frame; most = s.shard; bytes = input } in
     let t = inv.stopped input held name told rests is_told j stands in
     let k = inv.keeps name held rests j in
     let all = inv.stands input told (found_stands job source name held first (inr stands)) in
-    let u = c.run_next.ensures.stopped name source k.held start now b (rest_told left input from (last_progress rounds).bytes inv.rises told)
+    let u = c.run_next.ensures.stopped name source k.held _ _ b (rest_told left input (last_progress first).bytes (last_progress rounds).bytes inv.rises told)
     (stands_more job source name held k.held first rounds stands all k.spells) k.rests (inv.told ∙ is_told) (inv.journal_is name j) in (
       t.0 ++ u.0,
-      way_leaves name job source g.K.Disk.time g.K.Disk.left_since c.args.disk.now c.loop-intake.disk c.run_next.new.disk held k.held first rounds t.0 u.0 t.2
-          k.spells t.1 u.1,
+      way_leaves t.2 k.spells t.1 u.1,
       rw p.1 tt,
     )

@@ -2,13 +2,13 @@ use Rattle.std.proofs.Common.{◌≡◌, ◌+◌, ◌-◌, ◌^◌, ◌<◌, ◌
 use Rattle.sz_mean.specs.Marked.{all_tables}
 use Rattle.sz_io.specs.Opened.{KeepsOtherFiles}
 use Rattle.sz_disk.specs.Crashes.{are_told}
-use Rattle.sz_gates.specs.Crashing.{Rests, DoesNotFall}
+use Rattle.sz_gates.specs.Crashing.{Rests, LeavesOnly, DoesNotFall}
 use Rattle.sz_journal_format.specs.declared.job.JobBytes.{JobBytes}
 use Rattle.sz_journal_format.specs.declared.round.RoundEntry.{RoundEntry}
 use Rattle.sz_journal_format.specs.Rounds.{last_progress}
 use Rattle.sz_journal.specs.Journal.{rounds_of, KeepsRounds}
-use Rattle.sz_resume.specs.Standing.{Source, Stands}
-use Rattle.sz_resume.specs.Stops.{LeavesRounds}
+use Rattle.sz_resume.specs.Standing.{Stands}
+use Rattle.sz_resume.specs.Stops.{AreSmall, LeavesRounds, SpellsMore}
 use Rattle.sz_resume.specs.Runs.{IsJournalOf}
 use Rattle.sz_resume.specs.Turns.{AllStand, IsBehind, rest_from}
 use Rattle.sz_resume.proofs.resume.run_behind.Given as goal
@@ -23,13 +23,16 @@ invariant-loop-intake g l = record {
       (rest_from ((last_progress (rounds_of l.journal)).bytes - (last_progress (rounds_of l.fn.journal)).bytes) (g.F.Files.left l.fn.files l.file))
       (g.F.Files.left l.files l.file);
   journal_is : (name : JobBytes) → IsJournalOf name l.job l.fn.journal (g.K.Disk.bytes l.fn.disk) → IsJournalOf name l.job l.journal (g.K.Disk.bytes l.disk);
-  grows : (added : List RoundEntry) × (rounds_of l.journal ≡ rounds_of l.fn.journal ++ added);
+  grows : (added : List RoundEntry) × (rounds_of l.journal ≡ rounds_of l.fn.journal ++ added) × AreSmall (last_progress (rounds_of l.fn.journal)) added;
   stands : (input : List ℕ) → g.F.Files.left l.fn.files l.file ≡ Some (drop (last_progress (rounds_of l.fn.journal)).bytes input)
       → AllStand l.job (record { frame = l.settings.frame; most = l.settings.shard; bytes = input }) (rounds_of l.fn.journal)
       → AllStand l.job (record { frame = l.settings.frame; most = l.settings.shard; bytes = input }) (rounds_of l.journal);
   keeps : (name : JobBytes) (held : List ℕ) → Rests (g.K.Disk.bytes l.fn.disk) (g.K.Disk.may_leave l.fn.disk) held
       → IsJournalOf name l.job l.fn.journal (g.K.Disk.bytes l.fn.disk)
       → KeepsRounds (g.K.Disk.bytes l.disk) (g.K.Disk.may_leave l.disk) name (all_tables l.job.compiled) (rounds_of l.journal);
+  entries : (name : JobBytes) (held : List ℕ) → Rests (g.K.Disk.bytes l.fn.disk) (g.K.Disk.may_leave l.fn.disk) held
+      → are_told (g.K.Disk.may_leave l.fn.disk) ≡ true → IsJournalOf name l.job l.fn.journal (g.K.Disk.bytes l.fn.disk)
+      → LeavesOnly g.K.Disk.time g.K.Disk.left_since l.fn.disk l.disk (SpellsMore name (all_tables l.job.compiled) (rounds_of l.fn.journal));
   stopped : (input held : List ℕ) (name : JobBytes) → g.F.Files.left l.fn.files l.file ≡ Some (drop (last_progress (rounds_of l.fn.journal)).bytes input)
       → Rests (g.K.Disk.bytes l.fn.disk) (g.K.Disk.may_leave l.fn.disk) held → are_told (g.K.Disk.may_leave l.fn.disk) ≡ true
       → IsJournalOf name l.job l.fn.journal (g.K.Disk.bytes l.fn.disk)

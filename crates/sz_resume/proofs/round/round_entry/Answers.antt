@@ -1,4 +1,4 @@
-use Rattle.std.proofs.Common.{rules, ◌≡◌, ◌∙◌, ◌*◌, ◌≤◌, ◌^◌, sym, subst}
+use Rattle.std.proofs.Common.{rules, ◌∙◌, ◌≤◌, ◌^◌, sym, subst}
 use Rattle.sz_save.specs.Saving.{HaveSpelling, state_of_emits}
 use Rattle.sz_resume.proofs.RoundLemmas.{numbers_of, bound_is, bound_fits, low_bound, few_emits, stands_for, same_done}
 use Rattle.sz_resume.proofs.round.round_entry.Goals as goal

@@ -2,7 +2,7 @@ use Rattle.std.proofs.Common.{[], ◌∷◌}
 use Rattle.std.proofs.lemmas.Result.{IfOk-weaker}
 use Rattle.sz_merge.specs.Together.{AreTogether}
 use Rattle.sz_resume.specs.Entries.{HoldsRounds}
-use Rattle.sz_resume.proofs.JoinedLemmas.{nothing, can_begin, begins, can_take, joins_next, joins_all, holds_rounds, saved_in}
+use Rattle.sz_resume.proofs.JoinedLemmas.{nothing, can_begin, begins, can_take, joins_next, joins_all, holds_rounds}
 use Rattle.sz_resume.proofs.tables.joined_rounds.Goals as goal
 
 -- what holds nothing can be joined to nothing

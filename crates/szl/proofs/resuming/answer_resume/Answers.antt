@@ -37,7 +37,7 @@ returns-clause-stopped g c =
     let proto = c.in_ok-proto.proto in
     file_keeps g.F.Files g.K.Disk c.args.settings.now (status_of_answer (vec_items_of c.resume_with.result)) c.args.files.now c.file_named.new.files proto.types
     proto.bytes.items c.args.disk.now c.resume_with.new.disk c.in_ok-proto.ensures.kept.held_same c.in_ok-proto.ensures.read c.in_ok-proto.ensures.held
-    c.resume_with.ensures.stopped
+    c.resume_with.ensures.stopped c.resume_with.ensures.entries
 
 -- all files were read to their ends
 pub returns-clause-end : goal.returns-clause-end

@@ -17,7 +17,7 @@ use Rattle.szl.specs.ResumePromise.{KeepsJob}
 use Rattle.szl.specs.Resuming.{source_of}
 use Rattle.szl.specs.Shards.{job_of}
 use Rattle.szl.proofs.JobLemmas.{no_job, no_journal, behind_journal, job_keeps, is_journal, keeps_unopened}
-use Rattle.szl.proofs.KeepLemmas.{keeps_none, not_done}
+use Rattle.szl.proofs.KeepLemmas.{keeps_none, not_done, entries_untouched, entries_opened, entries_behind}
 use Rattle.szl.proofs.resuming.resume_program.Goals as goal
 
 -- a static faults, or there was no memory for the job
@@ -29,13 +29,18 @@ returns-in_err-job-clause-value g c =
     c.in_err-job.field-0.0 c.in_err-job.ensures.value)
 
 pub returns-in_err-job-clause-stopped : goal.returns-in_err-job-clause-stopped
-returns-in_err-job-clause-stopped g c input held told rests slots begun before found =
+returns-in_err-job-clause-stopped g c =
     let p = err_from_is_err_and c.from_residual.result c.from_residual.ensures.1 in
     let s = c.args.settings.now in
     let f = c.in_err-job.field-0.0 in
     let disk = c.args.disk.now in
-    rw (p.1, p.2) (keeps_none c.args.bytes.now (job_of (marked c.args.program s.ignore_undefs) slots s) (source_of s input) g.K.Disk held before found
-    (status_of f) (not_done f) disk (g.met.K.Disk.only_now disk) rests)
+    rw (p.1, p.2) (record {
+      untouched = λ none. refl;
+      entries = entries_untouched g.K.Disk (λ other. other ≡ c.args.bytes.now) disk (g.met.K.Disk.only_now disk);
+      found = λ input held told rests slots begun before found.
+          keeps_none c.args.bytes.now (job_of (marked c.args.program s.ignore_undefs) slots s) (source_of s input) g.K.Disk held before found (status_of f)
+          (not_done f) disk (g.met.K.Disk.only_now disk) rests;
+    })
 
 -- the journal isn't opened
 pub returns-in_err-journal-clause-value : goal.returns-in_err-journal-clause-value
@@ -50,7 +55,7 @@ returns-in_err-journal-clause-value g c =
     (λ held told. subst (λ ds. FitsError c.args.bytes.now ds held e) decls (c.in_err-journal.ensures.causes held told)))
 
 pub returns-in_err-journal-clause-stopped : goal.returns-in_err-journal-clause-stopped
-returns-in_err-journal-clause-stopped g c input held told rests slots begun before found =
+returns-in_err-journal-clause-stopped g c =
     let p = err_from_is_err_and c.from_residual-in_err-journal.result c.from_residual-in_err-journal.ensures.1 in
     let s = c.args.settings.now in
     let program = marked c.args.program s.ignore_undefs in
@@ -59,10 +64,15 @@ returns-in_err-journal-clause-stopped g c input held told rests slots begun befo
     let f = failure_of_journal c.in_err-journal.field-0.0 in
     let disk = c.args.disk.now in
     let mid = c.open_journal.new.disk in
-    rw (p.1, p.2) (keeps_unopened c.one_standing.ensures.law s c.requires.bounds.shard program slots c.args.bytes.now c.requires.low g.K.Disk input held before
-    (status_of f) (not_done f) disk mid found
-    (λ is. subst (λ ds. LeavesOnly g.K.Disk.time g.K.Disk.left_since disk mid (IsKept c.args.bytes.now ds held)) decls
-    (c.open_journal.ensures.leaves held rests is)))
+    rw (p.1, p.2) (record {
+      untouched = λ none. absurd (none made.slots made.means);
+      entries = entries_opened g.K.Disk c.args.bytes.now c.tables.result.now disk mid c.open_journal.ensures.leaves;
+      found = λ input held told rests slots begun before found.
+          keeps_unopened c.one_standing.ensures.law s c.requires.bounds.shard program slots c.args.bytes.now c.requires.low g.K.Disk input held before
+          (status_of f) (not_done f) disk mid found
+          (λ is. subst (λ ds. LeavesOnly g.K.Disk.time g.K.Disk.left_since disk mid (IsKept c.args.bytes.now ds held)) decls
+          (c.open_journal.ensures.leaves held rests is));
+    })
 
 -- the job can be run, and has this journal
 pub text_behind-requires-clause-job : goal.text_behind-requires-clause-job
@@ -118,7 +128,7 @@ returns-clause-value g c =
     answer) made.is_job_of.same (c.text_behind.ensures.value name c.in_ok-journal.ensures.is_of))
 
 pub returns-clause-stopped : goal.returns-clause-stopped
-returns-clause-stopped g c input held told rests slots begun before found =
+returns-clause-stopped g c =
     let s = c.args.settings.now in
     let program = marked c.args.program s.ignore_undefs in
     let name = c.args.bytes.now in
@@ -131,15 +141,27 @@ returns-clause-stopped g c input held told rests slots begun before found =
     let new = c.text_behind.new.disk in
     let st = status_of_answer (vec_items_of c.text_behind.result) in
     let decls = c.tables.ensures.value ∙ ap (λ (j : Job). all_tables j.compiled) same in
-    let keeps = subst (λ ds. KeepsRounds (g.K.Disk.bytes mid) (g.K.Disk.may_leave mid) name ds (rounds_of journal)) decls
-    (c.in_ok-journal.ensures.ok held rests.read) in
-    let fits = subst (λ ds. FitsAnswer name ds held (Ok journal)) decls (c.in_ok-journal.ensures.causes held rests.read) in
+    let here : (bytes : List ℕ) → g.K.Disk.bytes disk ≡ Some bytes
+    → KeepsRounds (g.K.Disk.bytes mid) (g.K.Disk.may_leave mid) name (all_tables job.compiled) (rounds_of journal)
+    = λ bytes there. subst (λ ds. KeepsRounds (g.K.Disk.bytes mid) (g.K.Disk.may_leave mid) name ds (rounds_of journal)) c.tables.ensures.value
+    (c.in_ok-journal.ensures.ok bytes there) in
     let is = is_journal name job journal (g.K.Disk.bytes disk) (g.K.Disk.bytes mid) (g.K.Disk.may_leave mid) c.in_ok-journal.ensures.is_of
-    (c.requires.budget ∙ sym (ap (λ (j : Job). j.budget) same)) (c.requires.skip ∙ sym (ap (λ (j : Job). j.skip) same)) c.open_journal.ensures.untold
-    (λ bytes there. subst (λ ds. KeepsRounds (g.K.Disk.bytes mid) (g.K.Disk.may_leave mid) name ds (rounds_of journal)) c.tables.ensures.value
-    (c.in_ok-journal.ensures.ok bytes there))
+    (c.requires.budget ∙ sym (ap (λ (j : Job). j.budget) same)) (c.requires.skip ∙ sym (ap (λ (j : Job). j.skip) same)) c.open_journal.ensures.untold here
     (subst (λ ds. AreRounds name ds (rounds_of journal)) c.tables.ensures.value c.in_ok-journal.ensures.are) in
-    job_keeps c.one_standing.ensures.law s c.requires.bounds.shard c.requires.no_save program slots begun name c.requires.low job.twice journal
-    g.K.Disk job made.slots made.means made.is_job_of input held before st disk mid new found fits keeps c.open_journal.ensures.told
-    (λ at. subst (λ ds. LeavesOnly g.K.Disk.time g.K.Disk.left_since disk mid (IsKept name ds held)) decls (c.open_journal.ensures.leaves held rests at))
-    refl (λ now. c.text_behind.ensures.stopped input keeps.held name told keeps.rests is now)
+    record {
+      untouched = λ none. absurd (none made.slots made.means);
+      entries = entries_behind g.K.Disk name (all_tables job.compiled) disk mid
+          (λ held rests at. subst (λ ds. LeavesOnly g.K.Disk.time g.K.Disk.left_since disk mid (IsKept name ds held)) c.tables.ensures.value
+          (c.open_journal.ensures.leaves held rests at))
+          journal new (λ held told. subst (λ ds. FitsAnswer name ds held (Ok journal)) c.tables.ensures.value (c.in_ok-journal.ensures.causes held told)) here
+          c.open_journal.ensures.told (λ held rests at. c.text_behind.ensures.entries name held rests at is);
+      found = λ input held told rests slots begun before found. (
+          let keeps = subst (λ ds. KeepsRounds (g.K.Disk.bytes mid) (g.K.Disk.may_leave mid) name ds (rounds_of journal)) decls
+          (c.in_ok-journal.ensures.ok held rests.read) in
+          let fits = subst (λ ds. FitsAnswer name ds held (Ok journal)) decls (c.in_ok-journal.ensures.causes held rests.read) in
+          job_keeps c.one_standing.ensures.law s c.requires.bounds.shard c.requires.no_save program slots begun name c.requires.low job.twice journal
+          g.K.Disk job made.slots made.means made.is_job_of input held before st disk mid new found fits keeps c.open_journal.ensures.told
+          (λ at. subst (λ ds. LeavesOnly g.K.Disk.time g.K.Disk.left_since disk mid (IsKept name ds held)) decls
+          (c.open_journal.ensures.leaves held rests at))
+          refl (λ now. c.text_behind.ensures.stopped input keeps.held name told keeps.rests is now));
+    }

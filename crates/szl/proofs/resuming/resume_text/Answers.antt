@@ -11,10 +11,10 @@ use Rattle.szl.specs.Judgement.{spells}
 use Rattle.szl.specs.JournalRuns.{AnswersJob, IsProgramOutcome, IfBegun, but_one}
 use Rattle.szl.specs.Opening.{status_of_answer}
 use Rattle.szl.specs.ProgramRuns.{vec_items_of}
-use Rattle.szl.specs.ResumePromise.{KeepsFound}
+use Rattle.szl.specs.ResumePromise.{IsNameFor, KeepsDisk}
 use Rattle.szl.specs.Resuming.{name_of}
 use Rattle.szl.proofs.ResumeLemmas.{text_unread, program_refused, no_memory_for, program_resumed, nothing_kept, text_keeps}
-use Rattle.szl.proofs.KeepLemmas.{not_done}
+use Rattle.szl.proofs.KeepLemmas.{not_done, entries_untouched, entries_named}
 use Rattle.szl.proofs.resuming.resume_text.Goals as goal
 
 -- the text has no tree
@@ -35,6 +35,10 @@ returns-in_err-tree-clause-stopped g c reading read =
     rw (p.1, p.2) (nothing_kept g.K.Disk s c.args.proto.now.types (name_of s c.args.text.now c.args.proto.now.bytes.items)
     (g.F.Files.held c.args.files.now s.input) (status_of f) reading disk (not_done f) (g.met.K.Disk.only_now disk))
 
+pub returns-in_err-tree-clause-entries : goal.returns-in_err-tree-clause-entries
+returns-in_err-tree-clause-entries g c =
+    entries_untouched g.K.Disk (IsNameFor c.args.settings.now) c.args.disk.now (g.met.K.Disk.only_now c.args.disk.now)
+
 -- the tree is refused
 pub returns-in_err-program-clause-value : goal.returns-in_err-program-clause-value
 returns-in_err-program-clause-value g c =
@@ -54,6 +58,10 @@ returns-in_err-program-clause-stopped g c reading read =
     rw (p.1, p.2) (nothing_kept g.K.Disk s c.args.proto.now.types (name_of s c.args.text.now c.args.proto.now.bytes.items)
     (g.F.Files.held c.args.files.now s.input) (status_of f) reading disk (not_done f) (g.met.K.Disk.only_now disk))
 
+pub returns-in_err-program-clause-entries : goal.returns-in_err-program-clause-entries
+returns-in_err-program-clause-entries g c =
+    entries_untouched g.K.Disk (IsNameFor c.args.settings.now) c.args.disk.now (g.met.K.Disk.only_now c.args.disk.now)
+
 -- there was no memory for the job's bytes
 pub returns-in_err-bytes-clause-value : goal.returns-in_err-bytes-clause-value
 returns-in_err-bytes-clause-value g c =
@@ -70,6 +78,10 @@ returns-in_err-bytes-clause-stopped g c reading read =
     let disk = c.args.disk.now in
     rw (p.1, p.2) (nothing_kept g.K.Disk s c.args.proto.now.types (name_of s c.args.text.now c.args.proto.now.bytes.items)
     (g.F.Files.held c.args.files.now s.input) status.NoMemory reading disk (λ e. cc) (g.met.K.Disk.only_now disk))
+
+pub returns-in_err-bytes-clause-entries : goal.returns-in_err-bytes-clause-entries
+returns-in_err-bytes-clause-entries g c =
+    entries_untouched g.K.Disk (IsNameFor c.args.settings.now) c.args.disk.now (g.met.K.Disk.only_now c.args.disk.now)
 
 -- the program's tables can be saved, and the job's numbers are those of the settings
 pub resume_program-requires-clause-can_save : goal.resume_program-requires-clause-can_save
@@ -111,4 +123,12 @@ returns-clause-stopped g c reading read =
     let name_is = subst (λ (b : List ℕ). c.in_ok-bytes.bytes ≡ name_of s text b) c.deref.ensures.value c.in_ok-bytes.ensures.value in
     text_keeps g.K.Disk s c.args.proto.now.types name told st text (program_of c.in_ok-tree.tree) program reading disk new c.requires.short
     c.in_ok-tree.ensures.found c.in_ok-program.ensures.found read
-    (subst (λ n. KeepsFound g.K.Disk s (IfBegun s program) n told st disk new) name_is c.resume_program.ensures.stopped)
+    (subst (λ n. KeepsDisk g.K.Disk s (IfBegun s program) n told st disk new) name_is c.resume_program.ensures.stopped)
+
+pub returns-clause-entries : goal.returns-clause-entries
+returns-clause-entries g c =
+    let s = c.args.settings.now in
+    let text = c.args.text.now in
+    let name_is = subst (λ (b : List ℕ). c.in_ok-bytes.bytes ≡ name_of s text b) c.deref.ensures.value c.in_ok-bytes.ensures.value in
+    entries_named g.K.Disk s c.in_ok-bytes.bytes text c.args.proto.now.bytes.items name_is c.args.disk.now c.resume_program.new.disk
+    c.resume_program.ensures.stopped.entries

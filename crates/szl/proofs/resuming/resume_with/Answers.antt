@@ -10,11 +10,11 @@ use Rattle.szl.specs.JournalRuns.{AnswersJob, IsTextOutcome, but_one}
 use Rattle.szl.specs.Opening.{ReadsText, past_program, ran_out, status_of_answer}
 use Rattle.szl.specs.ProgramRuns.{vec_items_of}
 use Rattle.szl.specs.Promise.{AreReadToEnd}
-use Rattle.szl.specs.ResumePromise.{IfSpelled, KeepsFound}
+use Rattle.szl.specs.ResumePromise.{IfSpelled, IsNameFor, KeepsDisk}
 use Rattle.szl.specs.Resuming.{name_of}
 use Rattle.szl.proofs.ResumeLemmas.{file_unread, text_resumed, nothing_kept, text_told}
 use Rattle.szl.proofs.SettingsLemmas.{both_when_ok, both_read}
-use Rattle.szl.proofs.KeepLemmas.{not_done}
+use Rattle.szl.proofs.KeepLemmas.{not_done, entries_untouched}
 use Rattle.szl.proofs.resuming.resume_with.Goals as goal
 
 -- the file couldn't be read
@@ -40,6 +40,10 @@ returns-in_err-text-clause-stopped g c text reading told read =
     let disk = c.args.disk.now in
     rw (p.1, p.2) (nothing_kept g.K.Disk s c.args.proto.now.types (name_of s text c.args.proto.now.bytes.items)
     (g.F.Files.held c.args.files.now s.input) (status_of f) reading disk (not_done f) (g.met.K.Disk.only_now disk))
+
+pub returns-in_err-text-clause-entries : goal.returns-in_err-text-clause-entries
+returns-in_err-text-clause-entries g c =
+    entries_untouched g.K.Disk (IsNameFor c.args.settings.now) c.args.disk.now (g.met.K.Disk.only_now c.args.disk.now)
 
 -- the text is answered
 pub returns-clause-value : goal.returns-clause-value
@@ -76,9 +80,9 @@ returns-clause-stopped g c text reading told read =
     (subst (λ (n : List ℕ). ReadsText (files.held old n) most_program_bytes past_program (Rose (files.faults old) (files.faults mid))
     (Ok c.in_ok-text.text.items)) c.as_str.ensures.value c.in_ok-text.ensures.text) in
     let here : c.deref.result.now ≡ text = c.deref.ensures.value ∙ same in
-    subst (λ h. KeepsFound g.K.Disk s (IfSpelled s types reading) (name_of s text proto) h st c.args.disk.now c.resume_text.new.disk)
+    subst (λ h. KeepsDisk g.K.Disk s (IfSpelled s types reading) (name_of s text proto) h st c.args.disk.now c.resume_text.new.disk)
     (c.in_ok-text.ensures.kept.held_same s.input)
-    (subst (λ (t : List ℕ). KeepsFound g.K.Disk s (IfSpelled s types reading) (name_of s t proto) (files.held mid s.input) st c.args.disk.now
+    (subst (λ (t : List ℕ). KeepsDisk g.K.Disk s (IfSpelled s types reading) (name_of s t proto) (files.held mid s.input) st c.args.disk.now
     c.resume_text.new.disk) here
     (c.resume_text.ensures.stopped reading (subst (λ (t : List ℕ). IsRead t reading) (sym here) read)))
 

@@ -3,6 +3,7 @@ use Rattle.std.proofs.Common.{[], refl, sym, ap, ◌∙◌, subst, arith}
 use Rattle.std.specs.Prelude.{Err, Ok, IfSome, IsSome}
 use Rattle.std.proofs.lemmas.Result.{err_from_is_err_and}
 use Rattle.sz_io.specs.Opened.{names_after}
+use Rattle.sz_mean.specs.Marked.{all_tables}
 use Rattle.sz_journal.specs.Journal.{rounds_of}
 use Rattle.sz_resume.specs.Runs.{TellsShort}
 use Rattle.szl.specs.declared.status.Status.TheVariants as status
@@ -13,7 +14,7 @@ use Rattle.szl.specs.ProgramRuns.{failure_of_opening}
 use Rattle.szl.specs.Resuming.{source_of}
 use Rattle.szl.proofs.BehindRoundsLemmas.{unopened, no_memory, halted, texts, gate_of}
 use Rattle.szl.proofs.FileLemmas.{rose_since, keeps_opened, opens_one, read_to_end}
-use Rattle.szl.proofs.KeepLemmas.{keeps_none, keeps_stopped, keeps_ended, not_done}
+use Rattle.szl.proofs.KeepLemmas.{keeps_none, keeps_stopped, keeps_ended, not_done, rounds_untouched}
 use Rattle.szl.proofs.OpenedLemmas.{opened_one}
 use Rattle.szl.proofs.resuming.text_behind.Goals as goal
 
@@ -35,6 +36,12 @@ returns-in_err-file-clause-stopped g c input held name told rests is_of found =
     let disk = c.args.disk.now in
     rw (p.1, p.2) (keeps_none name c.args.job.now (source_of c.args.settings.now input) g.K.Disk held (rounds_of c.args.journal.now) found (status_of f)
     (not_done f) disk (g.met.K.Disk.only_now disk) rests)
+
+pub returns-in_err-file-clause-entries : goal.returns-in_err-file-clause-entries
+returns-in_err-file-clause-entries g c name held rests is_told is_of =
+    let disk = c.args.disk.now in
+    rounds_untouched g.K.Disk name (all_tables c.args.job.now.compiled) (rounds_of c.args.journal.now) disk held (g.met.K.Disk.only_now disk) rests is_told
+    is_of.spells
 
 -- there are no tables
 pub returns-in_err-all-clause-value : goal.returns-in_err-all-clause-value
