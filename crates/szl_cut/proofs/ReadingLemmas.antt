@@ -17,7 +17,7 @@ use Rattle.szl_cut.specs.declared.failure.Failure.TheVariants.{Usage, Damaged, L
 use Rattle.szl_cut.specs.declared.progress.Progress.{Progress}
 use Rattle.szl_cut.specs.Cuts.{full, cuts, IsCutAt, Ends}
 use Rattle.szl_cut.specs.Answers.{IsFor}
-use Rattle.szl_cut.specs.Reading.{IsAt, Notes, ended_so, TakesIn, Takes, Finishes, FinishesNot, Reaches, ReadsOn}
+use Rattle.szl_cut.specs.Reading.{IsAt, Notes, ended_so, TakesIn, Takes, Finishes, FinishesNot, Reaches, ReadsOn, IsReadOut}
 
 pub err_parts : {T E : Type 0} {a b : E} → (let r : Result T E = Err a in r) ≡ Err b → a ≡ b
 err_parts e = cc
@@ -244,3 +244,8 @@ ends_not size progress start left failure r end finishes = by start left r.consu
     by (Some x) None c e = absurd c
     by (Some x) (Some y) c e =
         subst (λ (file : List ℕ). IsFor (Some file) failure) (sym (c ∙ ap (λ (l : List ℕ). r.fed ++ l) e ∙ append-nil r.fed)) (finishes size r.fed r.given r.at)
+
+pub read_out : {T : Type 0} (answer : Result T Failure) (size : ℕ) (progress : Progress) (start left : Option (List ℕ)) → Reaches size progress start left
+    → IsAtEnd left → OnOk answer (IsReadOut start left)
+read_out (Ok places) size progress start left r end = record { fed = r.fed; consumed = r.consumed; at_end = end }
+read_out (Err failure) size progress start left r end = tt

@@ -1,6 +1,5 @@
 -- What a command line is answered.
-use Rattle.std.specs.Prelude.{◌≡◌, ◌≢◌, ℕ, ◌^◌, ⊤, List, [], ◌∷◌, ◌++◌, take, codes, decimal, ◌&&◌, nat_le, Option, Some, None, IfSome, option_map, flat_map, if◌then◌else◌}
-use Rattle.std.specs.Io.KnownBytes.{Appends}
+use Rattle.std.specs.Prelude.{◌≡◌, ◌≢◌, ℕ, ◌^◌, ⊤, List, [], ◌∷◌, ◌++◌, codes, decimal, ◌&&◌, nat_le, Option, Some, None, IfSome, option_map, flat_map, if◌then◌else◌}
 use Rattle.std.specs.Str.Parse.{digits_value}
 use Rattle.sz_types.specs.Numerals.{is_numeral}
 use Rattle.sz_io.specs.declared.error.OutsideError.{OutsideError}
@@ -8,7 +7,7 @@ use Rattle.sz_io.specs.declared.error.OutsideError.TheVariants as outside
 use Rattle.sz_records.specs.declared.ending.Ending.TheVariants as endings
 use Rattle.szl_cut.specs.declared.failure.Failure.{Failure}
 use Rattle.szl_cut.specs.declared.failure.Failure.TheVariants.{Usage, Damaged, Limit, ReadFailed, WriteFailed, NoMemory}
-use Rattle.szl_cut.specs.Cuts.{IsCutAt, Ends}
+use Rattle.szl_cut.specs.Cuts.{Ends}
 
 -- the size of parts that a word asks for: decimal digits of a value from 1 to 2^40
 abbrev pub size_in : List ℕ → Option ℕ
@@ -72,23 +71,3 @@ IsWhy held asked WriteFailed = asked ≢ None
 IsWhy held asked Usage = asked ≡ None
 IsWhy held None failure = ⊥
 IsWhy held (Some asked) failure = IsFor (held asked.name) failure
-
--- the places of the file that is asked for were written, if the bytes under its name are told
-pub record Writes (held : List ℕ → Option (List ℕ)) (asked : Option Asked) (old new : Option (List ℕ)) : Type 0 where
-  pub name : List ℕ
-  pub size : ℕ
-  pub is : asked ≡ Some (record { name = name; size = size })
-  pub places : List ℕ
-  pub cut : IfSome (held name) (λ file. IsCutAt size file places)
-  pub appends : Appends old new (places_text places)
-
--- the sink took a prefix of the bytes
-pub record AppendsSome (old new : Option (List ℕ)) (bytes : List ℕ) : Type 0 where
-  pub count : ℕ
-  pub appends : Appends old new (take count bytes)
-
--- nothing was written, if it isn't the writing that failed, nor memory that was wanting
-abbrev pub Untouched : {O : Type 0} → Failure → O → O → Type 0
-Untouched WriteFailed old new = ⊤
-Untouched NoMemory old new = ⊤
-Untouched failure old new = new ≡ old

@@ -1,10 +1,12 @@
 //! Where a file is cut.
-ghost use Rattle.std.specs.Prelude.{◌≡◌, ◌<◌, ◌≤◌, length, None, IsTrue, IfSome, IfOk, IfErr, IsErrOf};
+ghost use Rattle.std.specs.Prelude.{◌≡◌, ◌<◌, ◌≤◌, length, None, IsTrue, IfSome, IfOk, IfErr, OnOk, IsErrOf};
 ghost use Rattle.sz_io.specs.Rose.{Rose};
-ghost use Rattle.sz_io.specs.Opened.{KeepsOtherFiles};
+ghost use Rattle.sz_io.specs.Calls.{NamesGain, ReadToEnd};
+ghost use Rattle.sz_io.specs.Opened.{KeepsFiles, KeepsOtherFiles};
 ghost use Rattle.szl_cut.specs.Cuts.{IsCutAt};
 ghost use Rattle.szl_cut.specs.Answers.{IsFor};
-ghost use Rattle.szl_cut.specs.Reading.{Reads, StopsReading};
+ghost use Rattle.szl_cut.specs.Promise.{ran_out};
+ghost use Rattle.szl_cut.specs.Reading.{IsReadOut, Reads, StopsReading};
 
 use crate::failure::Failure;
 use crate::progress::Progress;
@@ -29,6 +31,9 @@ pub fn cut_places<F: Files>(
     ensures places { IfOk result (λ places. IfSome (F.held files.old name.now) (λ file. IsCutAt size file places.items)) }
     ensures why { IfErr result (IsFor (F.held files.old name.now)) }
     ensures failed { IsErrOf result Failure.ReadFailed → Rose (F.faults files.old) (F.faults files.new) }
+    ensures end { OnOk result (ReadToEnd F.Files files.old files.new name.now) }
+    ensures names { NamesGain (ran_out result) (F.names files.old) (F.names files.new) name.now }
+    ensures kept { KeepsFiles F.held F.left F.given F.faults files.old files.new }
 {
     let file = files.open_file(name)?;
     cut_opened(alloc, files, file, size)
@@ -46,6 +51,8 @@ fn cut_opened<F: Files>(
     ensures places { IfOk result (λ places. IfSome (F.left files.old file) (λ bytes. IsCutAt size bytes places.items)) }
     ensures why { IfErr result (IsFor (F.left files.old file)) }
     ensures failed { IsErrOf result Failure.ReadFailed → Rose (F.faults files.old) (F.faults files.new) }
+    ensures end { OnOk result (IsReadOut (F.left files.old file) (F.left files.new file)) }
+    ensures kept { KeepsOtherFiles F.held F.left F.given F.names F.faults file files.old files.new }
 {
     let mut buffer = Vec::new(alloc);
     buffer.resize(PIECE_BYTES, 0)?;

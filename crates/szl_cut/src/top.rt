@@ -1,8 +1,12 @@
 //! From the words and the devices to the answer.
-ghost use Rattle.std.specs.Prelude.{◌≡◌, ◌≤◌, ◌<◌, ◌⊎◌, IfSome, IfErr, IsErrOf, OnOk, length, map, string_bytes};
+ghost use Rattle.std.specs.Prelude.{◌≡◌, ◌≤◌, ◌<◌, ◌⊎◌, IfSome, IfErr, IsErrOf, OnOk, OnErr, length, map, string_bytes};
 ghost use Rattle.std.specs.Io.KnownBytes.{Appends};
 ghost use Rattle.sz_io.specs.Rose.{Rose};
-ghost use Rattle.szl_cut.specs.Answers.{asked_in, size_in, IsWhy, Writes, AppendsSome, Untouched, line_of};
+ghost use Rattle.sz_io.specs.Opened.{KeepsFiles};
+ghost use Rattle.sz_io.specs.Calls.{ReadToEnd};
+ghost use Rattle.szl_cut.specs.Answers.{asked_in, size_in, IsWhy, line_of};
+ghost use Rattle.szl_cut.specs.Promise.{Writes, Leaves, GainsLine, OpensAsked, ran_out};
+ghost use Rattle.szl_cut.specs.Reading.{AppendsPart};
 
 use crate::cut::cut_places;
 use crate::failure::Failure;
@@ -26,10 +30,16 @@ pub fn cut_file<F: Files, O: Sink, E: Sink>(
     requires { length (F.names files.old) < 128 }
     ensures done { OnOk result (Writes (F.held files.old) (asked_in (map string_bytes words.now)) (O.taken out.old) (O.taken out.new)) }
     ensures why { IfErr result (IsWhy (F.held files.old) (asked_in (map string_bytes words.now))) }
-    ensures line { IfErr result (λ failure. AppendsSome (E.taken err.old) (E.taken err.new) (line_of failure)) }
-    ensures nothing { IfErr result (λ failure. Untouched failure out.old out.new) }
+    ensures output { IfErr result (λ failure. Leaves O.Sink (F.held files.old) (asked_in (map string_bytes words.now)) failure out.old out.new) }
+    ensures line { IfErr result (λ failure. GainsLine E.Sink err.old err.new (line_of failure)) }
+    ensures quiet { OnOk result (err.new ≡ err.old) }
+
     ensures read_failed { IsErrOf result Failure.ReadFailed → Rose (F.faults files.old) (F.faults files.new) }
     ensures write_failed { IsErrOf result Failure.WriteFailed → Rose (O.faults out.old) (O.faults out.new) }
+
+    ensures end { OnOk result (IfSome (asked_in (map string_bytes words.now)) (λ asked. ReadToEnd F.Files files.old files.new asked.name)) }
+    ensures names { OpensAsked F.Files (asked_in (map string_bytes words.now)) (ran_out result) files.old files.new }
+    ensures kept { KeepsFiles F.held F.left F.given F.faults files.old files.new }
 {
     match write_places(alloc, words, files, out) {
         Ok(()) => Ok(()),
@@ -47,9 +57,12 @@ fn write_places<F: Files, O: Sink>(
     requires { length (F.names files.old) < 128 }
     ensures done { OnOk result (Writes (F.held files.old) (asked_in (map string_bytes words.now)) (O.taken out.old) (O.taken out.new)) }
     ensures why { IfErr result (IsWhy (F.held files.old) (asked_in (map string_bytes words.now))) }
-    ensures nothing { IfErr result (λ failure. Untouched failure out.old out.new) }
+    ensures output { IfErr result (λ failure. Leaves O.Sink (F.held files.old) (asked_in (map string_bytes words.now)) failure out.old out.new) }
     ensures read_failed { IsErrOf result Failure.ReadFailed → Rose (F.faults files.old) (F.faults files.new) }
     ensures write_failed { IsErrOf result Failure.WriteFailed → Rose (O.faults out.old) (O.faults out.new) }
+    ensures end { OnOk result (IfSome (asked_in (map string_bytes words.now)) (λ asked. ReadToEnd F.Files files.old files.new asked.name)) }
+    ensures names { OpensAsked F.Files (asked_in (map string_bytes words.now)) (ran_out result) files.old files.new }
+    ensures kept { KeepsFiles F.held F.left F.given F.faults files.old files.new }
 {
     let [name, word] = words else {
         return Err(Failure::Usage);
@@ -77,6 +90,7 @@ fn size_in(word: &[u8]) -> Option<u64>
 fn write_text<O: Sink>(out: &mut O, text: &[u8]) -> Result<(), Failure>
     ensures done { OnOk result (Appends (O.taken out.old) (O.taken out.new) text.now) }
     ensures why { IfErr result (λ failure. (failure ≡ Failure.NoMemory) ⊎ (failure ≡ Failure.WriteFailed)) }
+    ensures part { OnErr result (AppendsPart (O.taken out.old) (O.taken out.new) text.now) }
     ensures failed { IsErrOf result Failure.WriteFailed → Rose (O.faults out.old) (O.faults out.new) }
 {
     match write_whole(out, text) {
@@ -89,7 +103,7 @@ fn write_text<O: Sink>(out: &mut O, text: &[u8]) -> Result<(), Failure>
 /// Writes the line of a failure, and gives what was told: the failure, or want of memory where there was none for its line.
 fn tell<E: Sink>(alloc: Global, err: &mut E, failure: Failure) -> Failure
     ensures told { (result ≡ failure) ⊎ (result ≡ Failure.NoMemory) }
-    ensures line { AppendsSome (E.taken err.old) (E.taken err.new) (line_of result) }
+    ensures line { GainsLine E.Sink err.old err.new (line_of result) }
 {
     match line_of(alloc, failure) {
         Ok(line) => tell_line(err, &line, failure),
@@ -101,7 +115,7 @@ fn tell<E: Sink>(alloc: Global, err: &mut E, failure: Failure) -> Failure
 fn tell_line<E: Sink>(err: &mut E, line: &[u8], failure: Failure) -> Failure
     requires { line.now ≡ line_of failure }
     ensures told { result ≡ failure }
-    ensures line { AppendsSome (E.taken err.old) (E.taken err.new) (line_of failure) }
+    ensures line { GainsLine E.Sink err.old err.new (line_of failure) }
 {
     let _ = write_whole(err, line);
     failure

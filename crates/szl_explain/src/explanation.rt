@@ -1,6 +1,9 @@
 //! What is said of a program: that it passes, or why it is refused.
 ghost use Rattle.std.specs.Prelude.{◌≡◌, ◌≤◌, length, IfOk, IfSome, IfNone, Some as Just};
-ghost use Rattle.szl_explain_judge.specs.Refusing.{refusal_line, IsProgram, IsRefused};
+ghost use Rattle.sz_lex.specs.Tokens.{first_place};
+ghost use Rattle.sz_check_rules.specs.declared.cause.Cause.TheVariants.{TooLong};
+ghost use Rattle.szl_explain_judge.specs.Refusing.{refusal_at, refusal_line, IsProgram, IsRefused};
+ghost use Rattle.szl_explain.specs.Answers.{first_line};
 
 use crate::fault::Fault;
 use crate::tables::say_left_out;
@@ -31,7 +34,7 @@ pub struct Explanation {
 pub fn explain(alloc: Global, text: &[u8]) -> Result<Explanation, AllocError>
     ensures program { IfOk result (λ e. IfNone e.refusal (IsProgram text.now)) }
     ensures refused { IfOk result (λ e. IfSome e.refusal (IsRefused text.now)) }
-    ensures line { IfOk result (λ e. IfSome e.refusal (λ r. e.line.items ≡ refusal_line r)) }
+    ensures line { IfOk result (λ e. e.line.items ≡ first_line e.refusal) }
 {
     match refusal_in(alloc, text)? {
         Some(refusal) => refused(alloc, text, refusal),
@@ -66,7 +69,10 @@ fn explained(alloc: Global, refusal: Refusal, more: Vec<u8>) -> Result<Explanati
 }
 
 /// What is said of a program whose text has more bytes than a program may have, whatever they are.
-pub fn explain_too_long(alloc: Global) -> Result<Explanation, AllocError> {
+pub fn explain_too_long(alloc: Global) -> Result<Explanation, AllocError>
+    ensures refusal { IfOk result (λ e. e.refusal ≡ Just (refusal_at TooLong first_place)) }
+    ensures line { IfOk result (λ e. e.line.items ≡ refusal_line (refusal_at TooLong first_place)) }
+{
     let refusal = Refusal::at(Cause::TooLong, FIRST_PLACE);
     let more = too_long_lines(alloc)?;
     explained(alloc, refusal, more)

@@ -1,10 +1,16 @@
 //! The call of the program: from the words and the devices to the status.
-ghost use Rattle.std.specs.Prelude.{◌<◌, length};
+ghost use Rattle.std.specs.Prelude.{◌≡◌, ◌<◌, ◌++◌, ℕ, [], Err, OnOk, OnErr, IfSome, length, map, string_bytes};
+ghost use Rattle.std.specs.Io.KnownBytes.{Appends};
+ghost use Rattle.sz_io.specs.Rose.{Rose};
+ghost use Rattle.sz_io.specs.Opened.{KeepsFiles};
+ghost use Rattle.sz_io.specs.Calls.{NamesGain, ReadToEnd};
+ghost use Rattle.szl_explain.specs.Answers.{asked_in, is_option, code_of, line_of, status_of, ran_out, Answers, IsAnswer, GainsLine, OpensAsked};
+ghost use Rattle.szl_explain.specs.Writing.{AppendsPart, Prints};
 
 use crate::explanation::{Explanation, explain, explain_too_long};
 use std::alloc::{AllocError, Global};
 use sz_io::{Files, ReadError, Sink, WriteError, read_whole, write_whole};
-use szl_explain_judge::MOST_PROGRAM_BYTES;
+use szl_explain_judge::{MOST_PROGRAM_BYTES, Refusal};
 
 /// How a call ends, by the statuses that `szl` has for the same.
 #[derive(Clone, Copy, Debug, PartialEq, Eq)]
@@ -25,7 +31,9 @@ pub enum Status {
 
 impl Status {
     /// The exit status.
-    pub fn code(self) -> u8 {
+    pub fn code(self) -> u8
+        ensures value { result ≡ code_of self }
+    {
         match self {
             Status::Done => 0,
             Status::Usage => 1,
@@ -37,7 +45,9 @@ impl Status {
     }
 
     /// The line that tells of it where there is no explanation, with its newline.
-    fn line(self) -> &'static [u8] {
+    fn line(self) -> &'static [u8]
+        ensures value { result.now ≡ line_of self }
+    {
         match self {
             Status::Done | Status::Program => b"",
             Status::Usage => b"bad command line\n",
@@ -60,6 +70,16 @@ pub fn explain_file<F: Files, O: Sink, E: Sink>(
     err: &mut E,
 ) -> Status
     requires { length (F.names files.old) < 128 }
+    ensures answer { Answers O.Sink (F.held files.old) (asked_in (map string_bytes words.now)) result out.old out.new }
+    ensures line { GainsLine E.Sink err.old err.new (line_of result) }
+    ensures quiet { line_of result ≡ [] → err.new ≡ err.old }
+
+    ensures read_failed { result ≡ Status.ReadFailed → Rose (F.faults files.old) (F.faults files.new) }
+    ensures write_failed { result ≡ Status.WriteFailed → Rose (O.faults out.old) (O.faults out.new) }
+
+    ensures end { result ≡ Status.Done → IfSome (asked_in (map string_bytes words.now)) (ReadToEnd F.Files files.old files.new) }
+    ensures names { OpensAsked F.Files (asked_in (map string_bytes words.now)) result files.old files.new }
+    ensures kept { KeepsFiles F.held F.left F.given F.faults files.old files.new }
 {
     let status = explain_words(alloc, words, files, out);
     let _ = write_whole(err, status.line());
@@ -74,37 +94,79 @@ fn explain_words<F: Files, O: Sink>(
     out: &mut O,
 ) -> Status
     requires { length (F.names files.old) < 128 }
+    ensures answer { Answers O.Sink (F.held files.old) (asked_in (map string_bytes words.now)) result out.old out.new }
+    ensures read_failed { result ≡ Status.ReadFailed → Rose (F.faults files.old) (F.faults files.new) }
+    ensures write_failed { result ≡ Status.WriteFailed → Rose (O.faults out.old) (O.faults out.new) }
+    ensures end { result ≡ Status.Done → IfSome (asked_in (map string_bytes words.now)) (ReadToEnd F.Files files.old files.new) }
+    ensures names { OpensAsked F.Files (asked_in (map string_bytes words.now)) result files.old files.new }
+    ensures kept { KeepsFiles F.held F.left F.given F.faults files.old files.new }
 {
     let [name] = words else {
         return Status::Usage;
     };
-    if name.len() > 1 && name.as_bytes()[0] == b'-' {
+    if is_option(name.as_bytes()) {
         return Status::Usage;
     }
-    let explained = match read_whole(alloc, files, name.as_str(), MOST_PROGRAM_BYTES) {
-        Ok(text) => explain(alloc, &text),
-        Err(ReadError::TooLong) => explain_too_long(alloc),
-        Err(ReadError::Failed) => return Status::ReadFailed,
-        Err(ReadError::NoMemory) => return Status::NoMemory,
-    };
-    write_explained(out, explained)
+    explain_named(alloc, name.as_str(), files, out)
+}
+
+/// Whether a word is no name: it begins with `-` and goes on.
+fn is_option(word: &[u8]) -> bool
+    ensures value { result ≡ is_option word.now }
+{
+    word.len() > 1 && word[0] == b'-'
+}
+
+/// Writes what is said of the program under a name.
+fn explain_named<F: Files, O: Sink>(alloc: Global, name: &str, files: &mut F, out: &mut O) -> Status
+    requires { length (F.names files.old) < 128 }
+    ensures answer { IsAnswer O.Sink (F.held files.old name.now) result out.old out.new }
+    ensures read_failed { result ≡ Status.ReadFailed → Rose (F.faults files.old) (F.faults files.new) }
+    ensures write_failed { result ≡ Status.WriteFailed → Rose (O.faults out.old) (O.faults out.new) }
+    ensures end { result ≡ Status.Done → ReadToEnd F.Files files.old files.new name.now }
+    ensures names { NamesGain (ran_out result) (F.names files.old) (F.names files.new) name.now }
+    ensures kept { KeepsFiles F.held F.left F.given F.faults files.old files.new }
+{
+    match read_whole(alloc, files, name, MOST_PROGRAM_BYTES) {
+        Ok(text) => write_explained(out, explain(alloc, &text)),
+        Err(ReadError::TooLong) => write_explained(out, explain_too_long(alloc)),
+        Err(ReadError::Failed) => Status::ReadFailed,
+        Err(ReadError::NoMemory) => Status::NoMemory,
+    }
 }
 
 /// Writes an explanation, if there is one.
-fn write_explained<O: Sink>(out: &mut O, explained: Result<Explanation, AllocError>) -> Status {
+fn write_explained<O: Sink>(out: &mut O, explained: Result<Explanation, AllocError>) -> Status
+    ensures printed { Prints O.Sink explained result out.old out.new }
+    ensures read { result ≡ Status.ReadFailed → ⊥ }
+    ensures failed { result ≡ Status.WriteFailed → Rose (O.faults out.old) (O.faults out.new) }
+{
     let Ok(explanation) = explained else {
         return Status::NoMemory;
     };
-    match write_both(out, &explanation) {
-        Ok(()) if explanation.refusal.is_none() => Status::Done,
-        Ok(()) => Status::Program,
+    match write_both(out, &explanation.line, &explanation.more) {
+        Ok(()) => status_of(&explanation.refusal),
         Err(WriteError::Failed(_)) => Status::WriteFailed,
         Err(WriteError::NoMemory(_)) => Status::NoMemory,
     }
 }
 
+/// The status of a program that was explained: that it passes, or is refused.
+fn status_of(refusal: &Option<Refusal>) -> Status
+    ensures value { result ≡ status_of refusal.now }
+{
+    match refusal {
+        None => Status::Done,
+        Some(_) => Status::Program,
+    }
+}
+
 /// Writes the line of an explanation, and those that say more.
-fn write_both<O: Sink>(out: &mut O, explanation: &Explanation) -> Result<(), WriteError> {
-    write_whole(out, &explanation.line)?;
-    write_whole(out, &explanation.more)
+fn write_both<O: Sink>(out: &mut O, line: &[u8], more: &[u8]) -> Result<(), WriteError>
+    ensures whole { OnOk result (Appends (O.taken out.old) (O.taken out.new) (line.now ++ more.now)) }
+    ensures part { OnErr result (AppendsPart (O.taken out.old) (O.taken out.new) (line.now ++ more.now)) }
+    ensures failed { (n : ℕ) → result ≡ Err (WriteError.Failed n) → Rose (O.faults out.old) (O.faults out.new) }
+{
+    write_whole(out, line)?;
+    write_whole(out, more)
 }

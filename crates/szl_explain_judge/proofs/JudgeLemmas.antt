@@ -67,10 +67,10 @@ unread_is_stop text (stops.Refused r) h = inl h
 unread_is_stop text stops.NoMemory h = tt
 
 -- what stops the judgement of the statements of a text stops that of the text
-pub judged_is_stop : (text : List ℕ) (ss : Stms) (s : Stop) → HasStatements text ss → IsStopOn (checked ss) s → IsStopOf text s
-judged_is_stop text ss (stops.Refused r) has h = inr (record { statements = ss; spelled = has; judged = h })
-judged_is_stop text ss stops.NoMemory has h = tt
+pub judged_is_stop : (text : List ℕ) (ss : Stms) (s : Stop) → IsShort text → HasStatements text ss → IsStopOn (checked ss) s → IsStopOf text s
+judged_is_stop text ss (stops.Refused r) short has h = inr (record { short = short; statements = ss; spelled = has; judged = h })
+judged_is_stop text ss stops.NoMemory short has h = tt
 
 -- a text whose statements are a program is one
-pub spelled_program : (text : List ℕ) (ss : Stms) (program : Core) → HasStatements text ss → checked ss ≡ Ok program → IsProgram text
-spelled_program text ss program has h = record { statements = ss; program = program; spelled = has; judged = h }
+pub spelled_program : (text : List ℕ) (ss : Stms) (program : Core) → IsShort text → HasStatements text ss → checked ss ≡ Ok program → IsProgram text
+spelled_program text ss program short has h = record { short = short; statements = ss; program = program; spelled = has; judged = h }

@@ -66,15 +66,17 @@ judged_so (Err r) = Err (refusal_of r)
 unfoldable pub checked : Stms → Result Core Refusal
 checked statements = judged_so (judge_program statements)
 
--- the text spells statements, which are a program
+-- the text is within the limit and spells statements, which are a program
 pub record IsProgram (text : List ℕ) : Type 0 where
+  pub short : IsShort text
   pub statements : Stms
   pub program : Core
   pub spelled : HasStatements text statements
   pub judged : checked statements ≡ Ok program
 
--- the text spells statements, and their first refusal is this
+-- the text is within the limit and spells statements, and their first refusal is this
 pub record IsJudged (text : List ℕ) (r : Refusal) : Type 0 where
+  pub short : IsShort text
   pub statements : Stms
   pub spelled : HasStatements text statements
   pub judged : checked statements ≡ Err r

@@ -1,7 +1,7 @@
 -- All of the file is read, or as much as fixes its ending.
 use Rattle.std.proofs.Common.{arith}
 use Rattle.std.proofs.lemmas.Result.{err_from_is_err_and, IfErr-weaker, IfOk-weaker}
-use Rattle.szl_cut.proofs.ReadingLemmas.{ends_whole, ends_not}
+use Rattle.szl_cut.proofs.ReadingLemmas.{ends_whole, ends_not, read_out}
 use Rattle.szl_cut.proofs.cut.cut_opened.Goals as goal
 
 -- less is left to be read
@@ -25,6 +25,13 @@ returns-clause-places g c =
     let r = c.in_ok-read_next.ensures.read c.args.size start c.loop-progress.invariant.reached in
     IfOk-weaker c.finish.result _ _
     (λ places. ends_whole c.args.size c.read_next.new.progress start left places.items r.reached (r.at_end c.if-branch.false)) c.finish.ensures.whole
+
+pub returns-clause-end : goal.returns-clause-end
+returns-clause-end g c =
+    let start = g.F.Files.left c.args.files.now c.args.file in
+    let left = g.F.Files.left c.read_next.new.files c.args.file in
+    let r = c.in_ok-read_next.ensures.read c.args.size start c.loop-progress.invariant.reached in
+    read_out c.finish.result c.args.size c.read_next.new.progress start left r.reached (r.at_end c.if-branch.false)
 
 pub returns-clause-why : goal.returns-clause-why
 returns-clause-why g c =
