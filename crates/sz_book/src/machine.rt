@@ -1,7 +1,6 @@
 //! The ledger as a value of one thread.
-ghost use Rattle.std.specs.Prelude.{◌≡◌, ◌≢◌, ◌==◌, ◌↔◌, ◌<◌, ◌≤◌, ◌^◌, ◌++◌, ℕ, List, true, not, nat_lt, [], drop, length, replicate, slice_index, IfOk, IfSome, IfNone, OnOk, OnErr};
+ghost use Rattle.std.specs.Prelude.{◌≡◌, ◌≢◌, ◌==◌, ◌↔◌, ◌<◌, ◌≤◌, ◌^◌, ◌++◌, ℕ, List, true, not, nat_lt, [], drop, length, replicate, slice_index, IfOk, IfSome, IfNone, OnErr};
 ghost use Rattle.std.specs.Int.{bit_at};
-ghost use Rattle.sz_book_rules.specs.Plan.{PlanData};
 ghost use Rattle.sz_book_rules.specs.Machine.{opening, IsDrawn, IsTried, IsReturned, AreUnplaced, Fits, list_of, placed};
 ghost use Rattle.sz_book.specs.Cores.{Takes, TakesWith, GoesOn, IsAllowed, IsSound, is_unplaced_after, least_or_none, brought, marked_from};
 ghost use Rattle.sz_book.specs.Held.{is_change};

@@ -8,7 +8,6 @@ use Rattle.sz_tree.specs.declared.stmt.Step.{Step}
 use Rattle.sz_tree.specs.declared.stmt.Stmt.{Stmt}
 use Rattle.sz_tree.specs.declared.types.Param.{Param}
 use Rattle.sz_tree.specs.Statements.{stms_of}
-use Rattle.sz_tree.specs.Statements as trees
 use Rattle.sz_tree.specs.Types.{params_of}
 use Rattle.sz_tree.specs.View.{step_of, stm_of, param_of, type_of}
 use Rattle.sz_core.specs.Statements.{Stm}

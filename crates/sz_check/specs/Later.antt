@@ -14,7 +14,6 @@ use Rattle.std.specs.Option.{option_map}
 use Rattle.sz_value.specs.Data.{Datum}
 use Rattle.sz_core.specs.Nodes.{Node, node, nodes_of}
 use Rattle.sz_core.specs.Nodes as forms
-use Rattle.sz_core.specs.Statements as core
 use Rattle.sz_core.specs.Statements.{Stm, with_stm, stms_of}
 use Rattle.sz_core.specs.declared.stmt.CoreStmt.{CoreStmt}
 use Rattle.sz_core.specs.View.{stm_of, node_of}

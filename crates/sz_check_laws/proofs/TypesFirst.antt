@@ -10,11 +10,11 @@ use Rattle.sz_tree.specs.Expressions.{Exp}
 use Rattle.sz_tree.specs.Types.{Typ, Params, no_params, param}
 use Rattle.sz_tree.specs.Statements.{ElemForm, TableForm, Stm, declare, define, static, typedef, table, function, Stms, no_stms, stm}
 use Rattle.sz_core.specs.Nodes.{type_of}
-use Rattle.sz_core.specs.Programs.{Signature, Static, Item, Core}
+use Rattle.sz_core.specs.Programs.{Signature, Item, Core}
 use Rattle.sz_core.specs.Programs as items
 use Rattle.sz_core.specs.Statements as core
 use Rattle.sz_check_rules.specs.Refusals.{Judged, ◌>>=◌, declared_twice, unless, too_many}
-use Rattle.sz_check_rules.specs.Names.{Block, Named, Meaning, meaning_in, meaning_of, has, only, is_seen_by_functions, is_seen_by_statics, predeclared_names}
+use Rattle.sz_check_rules.specs.Names.{Block, Named, Meaning, meaning_in, meaning_of, has, only, is_seen_by_functions, is_seen_by_statics}
 use Rattle.sz_check_rules.specs.Names as names
 use Rattle.sz_check_rules.specs.Agreeing.{converted}
 use Rattle.sz_check_rules.specs.Scene.{Scene, with_variable}

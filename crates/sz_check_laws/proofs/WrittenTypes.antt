@@ -10,7 +10,7 @@ use Rattle.sz_tree.specs.Types.{Typ}
 use Rattle.sz_tree.specs.Statements.{Stm, typedef, Stms, no_stms, stm}
 use Rattle.sz_core.specs.WellFormed.{is_well_formed, are_well_formed, are_distinct_texts}
 use Rattle.sz_check_rules.specs.Refusals.{Judged, ◌>>=◌, has_name}
-use Rattle.sz_check_rules.specs.Names.{Block, Named, has, predeclared_names}
+use Rattle.sz_check_rules.specs.Names.{Block, has, predeclared_names}
 use Rattle.sz_check_rules.specs.Names as names
 use Rattle.sz_check_rules.specs.JudgingPrograms.{TopScene, Found, with_blocks, judge_top, judge_all, known_at_first, judge_program}
 use Rattle.sz_check_rules.proofs.Holds.{good}

@@ -1,6 +1,5 @@
 //! The ledger, and its passes.
-ghost use Rattle.std.specs.Prelude.{◌≡◌, ◌+◌, ◌*◌, ◌^◌, ◌<◌, ◌≤◌, ◌||◌, ℕ, false, [], ◌∷◌, ◌++◌, length, map, replicate, slice_index, IfOk};
-ghost use Rattle.sz_book_rules.specs.Plan.{IsPlan, count_of};
+ghost use Rattle.std.specs.Prelude.{◌≡◌, ◌+◌, ◌*◌, ◌^◌, ◌<◌, ◌||◌, ℕ, false, [], ◌∷◌, length, map, IfOk};
 ghost use Rattle.sz_book_rules.specs.Machine.{draw_reply, number_reply};
 ghost use Rattle.sz_book_rules.specs.History.{HasDrawn, HasNumber};
 ghost use Rattle.sz_claims.specs.Rule.{Called, any_of, found_no_ticket, found_no_number, bit, number_at, deaths_at, settled_at};

@@ -1,5 +1,5 @@
 //! The rule of the table, and what its steps tell.
-ghost use Rattle.std.specs.Prelude.{◌≡◌, ℕ, List, [], ◌∷◌, ◌++◌, ◌+◌};
+ghost use Rattle.std.specs.Prelude.{◌≡◌, ℕ, List, [], ◌∷◌};
 ghost use Rattle.sz_book_rules.specs.declared.event.Event.{Event};
 ghost use Rattle.sz_book_rules.specs.declared.event.Reply.{Reply};
 ghost use Rattle.sz_claims.specs.Rule.{Kept, newcomer, Called, Looked, Lent, Given, split_left, split_right, merged, spent};

@@ -1,9 +1,8 @@
 //! The search for components: a path of parts, each of nodes that lead to each other, from which parts are closed at its end.
-ghost use Rattle.std.specs.Prelude.{◌≡◌, ℕ, ◌+◌, ◌-◌, ◌<◌, ◌≤◌, ◌++◌, ◌∷◌, [], List, length, map, set, take, replicate, slice_index_or, slice_get, Some, ◌≢◌, IfOk, OnOk, IfSome, IfNone, Contains};
-ghost use Rattle.sz_components.specs.declared.mark.Mark.{Mark as Marked};
+ghost use Rattle.std.specs.Prelude.{◌≡◌, ℕ, ◌+◌, ◌-◌, ◌<◌, ◌≤◌, ◌++◌, ◌∷◌, [], List, length, map, set, take, replicate, slice_get, Some, IfOk, OnOk, IfSome, IfNone};
 ghost use Rattle.sz_components.specs.declared.mark.Mark.TheVariants.{Unseen as unseen, Open as opened_at, Closed as closed_as};
 ghost use Rattle.sz_components.specs.Components.{links_of, IsGraph, Leads};
-ghost use Rattle.sz_components.specs.Search.{mark_of, link, start_at, none_spared, steps_left, IsClosing, IsCut, IsOpen, IsSearch, IsWhole, KeepsSeen, IsPath, IsSound, steps_of};
+ghost use Rattle.sz_components.specs.Search.{mark_of, link, start_at, none_spared, IsClosing, IsCut, IsOpen, KeepsSeen, IsPath, IsSound, steps_of};
 
 use crate::mark::{Link, Mark, Start};
 use std::alloc::{AllocError, Global};

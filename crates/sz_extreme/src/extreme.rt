@@ -1,5 +1,5 @@
 //! The aggregator of extremes, and its calls.
-ghost use Rattle.std.specs.Prelude.{◌≡◌, ◌⊎◌, ◌+◌, ◌≤◌, ◌^◌, true, is_some, IsOk, IfOk, IfErr, OnOk, OnErr};
+ghost use Rattle.std.specs.Prelude.{◌≡◌, ◌⊎◌, ◌+◌, ◌≤◌, ◌^◌, true, is_some, IsOk, IfErr, OnOk, OnErr};
 ghost use Rattle.sz_types.specs.SeenTables.{seen_table};
 ghost use Rattle.sz_types.specs.declared.table.TableKind.TheVariants as kinds;
 ghost use Rattle.sz_tabs.specs.Aggregating.{IsNew, Joins};

@@ -1,5 +1,5 @@
 //! The value that bytes spell.
-ghost use Rattle.std.specs.Prelude.{◌≡◌, ◌∷◌, length, map, IfOk, IsErrOf};
+ghost use Rattle.std.specs.Prelude.{◌∷◌, map, IfOk, IsErrOf};
 ghost use Rattle.sz_value.specs.Data.{Datum};
 ghost use Rattle.sz_value.specs.Seen.{seen, seen_pair, seen_pairs};
 ghost use Rattle.sz_flat.specs.declared.error.FlatError.TheVariants as errors;

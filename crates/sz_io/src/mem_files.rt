@@ -1,5 +1,5 @@
 //! Files in memory, on which calls fail where lists say so.
-ghost use Rattle.std.specs.Prelude.{◌≡◌, ◌<◌, ◌≤◌, min, ℕ, List, length, vec_len, IsTrue, IfOk, OnOk, OnErr, IfSome, IsErrOf, is_err};
+ghost use Rattle.std.specs.Prelude.{◌≡◌, ◌<◌, ◌≤◌, min, ℕ, length, vec_len, IsTrue, IfOk, OnOk, OnErr, IfSome, IsErrOf, is_err};
 ghost use Rattle.std.specs.Io.KnownBytes.{ReadConsumes};
 ghost use Rattle.sz_io.specs.Rose.{Rose};
 ghost use Rattle.sz_io.specs.Opened.{names_after, given_after, KeepsFiles, KeepsOtherFiles};

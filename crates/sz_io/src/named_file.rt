@@ -1,5 +1,5 @@
 //! The files that a device in memory holds, the newest last, and where an opened one stands.
-ghost use Rattle.std.specs.Prelude.{◌≡◌, ◌<◌, ◌≤◌, ◌-◌, min, length, take, ◌↔◌, IsTrue, IsErr, IfOk, IfSome};
+ghost use Rattle.std.specs.Prelude.{◌≡◌, ◌<◌, ◌-◌, min, length, take, ◌↔◌, IsTrue, IsErr, IfOk, IfSome};
 ghost use Rattle.std.specs.Io.KnownBytes.{ReadConsumes};
 ghost use Rattle.sz_io.specs.NamedFiles.{place_in, bytes_at, rest_of, is_next_listed, CallsOneFile};
 ghost use Rattle.sz_io.specs.Placed.{IsPlaced};

@@ -1,5 +1,5 @@
 //! Real files and standard input. Nothing is proved of what they hold or give.
-ghost use Rattle.std.specs.Prelude.{◌≡◌, ◌<◌, ◌≤◌, ℕ, [], None, length, map, nat_lt, vec_len, string_bytes};
+ghost use Rattle.std.specs.Prelude.{◌≡◌, ◌<◌, ◌≤◌, ℕ, [], length, vec_len};
 ghost use Rattle.std.specs.Prelude.{IsTrue, IfOk, OnErr, IsErrOf, is_err};
 ghost use Rattle.std.specs.Io.KnownBytes.{ReadConsumes};
 ghost use Rattle.sz_io.specs.Rose.{Rose, faults_after};

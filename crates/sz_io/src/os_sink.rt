@@ -1,7 +1,6 @@
 //! A sink over a real stream. Nothing is proved of what the stream keeps.
 ghost use Rattle.std.specs.Prelude.{◌≡◌, ◌<◌, ◌≤◌, ℕ, length, None, IfOk, IsErrOf, is_err};
 ghost use Rattle.std.specs.Io.KnownBytes.{WriteAppends};
-ghost use Rattle.std.specs.Io.{WritesAtMost};
 ghost use Rattle.sz_io.specs.Rose.{Rose, DoNotFall, faults_after};
 
 use crate::{OutsideError, Sink};

@@ -1,5 +1,4 @@
 //! Numbers, read from the front of bytes.
-ghost use Rattle.std.specs.Prelude.{◌≡◌};
 ghost use Rattle.sz_save_format.specs.Decoding.{length_at, byte_at};
 ghost use Rattle.sz_save_format.specs.DecodingRows.{count_at};
 ghost use Rattle.sz_journal_format.specs.Reading.{Reads};

@@ -1,5 +1,5 @@
 //! Escapes in literals.
-ghost use Rattle.std.specs.Prelude.{◌≡◌, ◌+◌, ◌≤◌, length};
+ghost use Rattle.std.specs.Prelude.{◌≡◌, length};
 ghost use Rattle.std.specs.Option.{option_and_then};
 ghost use Rattle.sz_lex.specs.Numbers.{digits_from};
 ghost use Rattle.sz_lex.specs.Literals.{opening, letter_escape, character_escape, escape_of};

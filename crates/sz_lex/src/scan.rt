@@ -1,6 +1,6 @@
 //! From a text to its tokens.
 ghost use Rattle.std.specs.Prelude.{◌≡◌, ◌-◌, ◌<◌, ◌≤◌, ◌^◌, ◌⊎◌, List, length, IsUtf8};
-ghost use Rattle.std.specs.Prelude.{IfOk, IfErr, OnOk, IsErrOf, MatchResult};
+ghost use Rattle.std.specs.Prelude.{IfOk, IfErr, MatchResult};
 ghost use Rattle.sz_lex.specs.declared.token.Token.{Token as Tok};
 ghost use Rattle.sz_lex.specs.declared.error.LexError.{LexError as Reason};
 ghost use Rattle.sz_lex.specs.Tokens.{after, later, first_place, HasTokens, IsRefused};

@@ -1,6 +1,5 @@
 //! The reserved words.
-ghost use Rattle.std.specs.Prelude.{◌≡◌, ◌≢◌, IfSome, IfNone};
-ghost use Rattle.sz_lex.specs.declared.word.Word.{Word as Reserved};
+ghost use Rattle.std.specs.Prelude.{◌≡◌};
 ghost use Rattle.sz_lex.specs.Words.{word_text};
 ghost use Rattle.sz_lex.specs.Lookup.{word_of};
 

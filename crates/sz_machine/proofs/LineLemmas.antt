@@ -6,7 +6,7 @@ use Rattle.sz_instr.specs.declared.routine.Routine.{Routine}
 use Rattle.sz_world_rules.specs.World.{World, new_world, Outcome, Fault}
 use Rattle.sz_world_rules.specs.Slots.{Slot, undefined_slots}
 use Rattle.sz_machine_rules.specs.States.{State, After, Goes, Halts, Faults, Stuck, IsOver, entered}
-use Rattle.sz_machine_rules.specs.Runs.{LeadsBy, GoesOn, RunsFor, ComesTo, EndsStatic, RoutinesRunTo, record_start, does}
+use Rattle.sz_machine_rules.specs.Runs.{LeadsBy, GoesOn, RunsFor, EndsStatic, RoutinesRunTo, record_start, does}
 use Rattle.sz_machine_rules.proofs.OneEnd.{over_of}
 use Rattle.sz_machine.specs.Ends.{RunEnds, StaticsRunEnds}
 use Rattle.sz_machine.specs.Leasts.{least_from}

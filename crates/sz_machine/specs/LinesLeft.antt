@@ -5,7 +5,7 @@ use Rattle.sz_instr.specs.declared.line.Line.{Line}
 use Rattle.sz_instr.specs.declared.routine.Routine.{Routine}
 use Rattle.sz_world_rules.specs.World.{World, new_world, Outcome}
 use Rattle.sz_world_rules.specs.Slots.{Slot, undefined_slots}
-use Rattle.sz_machine_rules.specs.States.{State, After, Goes, Halts, Faults, Stuck, entered}
+use Rattle.sz_machine_rules.specs.States.{State, After, Goes, Halts, Stuck, entered}
 use Rattle.sz_machine_rules.specs.Runs.{does, record_start, StaticsRunTo, RoutinesRunTo}
 use Rattle.sz_machine.specs.Leasts.{Least, least_prop}
 use Rattle.sz_machine.specs.CodeRuns.{IsOnTheWay}

@@ -5,7 +5,7 @@ ghost use Rattle.sz_instr.specs.declared.code.Code.{Code};
 ghost use Rattle.sz_types.specs.declared.place.Place.{Place};
 ghost use Rattle.sz_machine_rules.specs.Rows.{act};
 ghost use Rattle.sz_machine_rules.specs.Covering.{Covers};
-ghost use Rattle.sz_machine.specs.Acting.{Around, DoesFromTo, DoesWhere, state_of, weighs_and_acts, base_charge, TakesCandidate};
+ghost use Rattle.sz_machine.specs.Acting.{DoesFromTo, DoesWhere, state_of, weighs_and_acts, base_charge, TakesCandidate};
 ghost use Rattle.sz_machine.specs.Acting.{IsInside, IsApart, IsCovered, in_record, in_static};
 
 use crate::run_state::{Next, RunState, again};

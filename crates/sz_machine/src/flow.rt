@@ -4,7 +4,7 @@ ghost use Rattle.sz_instr.specs.declared.code.Code.{Code};
 ghost use Rattle.sz_types.specs.declared.place.Place.{Place};
 ghost use Rattle.sz_instr.specs.declared.instr.Instr.TheVariants as instr;
 ghost use Rattle.sz_machine_rules.specs.Rows.{act, call_routine};
-ghost use Rattle.sz_machine.specs.Acting.{Around, Does, DoesAt, DoesWhere, PassesTo};
+ghost use Rattle.sz_machine.specs.Acting.{Does, DoesAt, DoesWhere, PassesTo};
 
 use crate::run_state::{CALLS_TOO_DEEP, Next, RunState, UNDEFINED_USED, again};
 use std::alloc::Global;

@@ -1,9 +1,7 @@
 //! A run in place: what lines change.
-ghost use Rattle.std.specs.Prelude.{◌≡◌, ◌<◌, ◌∷◌, length, drop, IfOk, OnOk};
-ghost use Rattle.sz_value.specs.Data.{Datum};
+ghost use Rattle.std.specs.Prelude.{◌≡◌, ◌<◌, ◌∷◌, drop, IfOk};
 ghost use Rattle.sz_machine.specs.Acting.{Paid, Does, results};
 
-use std::alloc::Global;
 use sz_machine_cells::{Calls, Cell, Operands};
 use sz_tabs::Emits;
 use sz_value::NoMemory;

@@ -1,5 +1,5 @@
 //! Stores into values, by a path.
-ghost use Rattle.std.specs.Prelude.{◌≡◌, ℕ, ◌+◌, ◌<◌, ◌≤◌, [], length, IfOk, Option};
+ghost use Rattle.std.specs.Prelude.{ℕ, ◌+◌, ◌<◌, ◌≤◌, [], length, IfOk, Option};
 ghost use Rattle.sz_value.specs.Seen.{seen};
 ghost use Rattle.sz_machine_rules.specs.Rows.{indexes_in, store};
 ghost use Rattle.sz_machine.specs.Acting.{Does, DoesAt};

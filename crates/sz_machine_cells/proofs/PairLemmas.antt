@@ -5,7 +5,6 @@ use Rattle.std.proofs.lemmas.List.{take_more, drop_more, map-append, append_asso
 use Rattle.std.specs.Option.{option_map}
 use Rattle.std.proofs.lemmas.List.Elements.{filter_agree}
 use Rattle.std.proofs.lemmas.List.MinMax.{ranks_by}
-use Rattle.std.specs.Prelude.{min}
 use Rattle.std.specs.List.{AllByRecursion, list_all}
 use Rattle.std.specs.List.Sorted.{IsStableBy, IsSortedBy, ties}
 use Rattle.std.specs.Cmp.{IsStrictWeakOrder}
@@ -17,7 +16,7 @@ use Rattle.sz_value.specs.Data.{Datum, mapping, entries_of}
 use Rattle.sz_value.specs.Order.{compare}
 use Rattle.sz_value.specs.Total.{compare_total, compare_ties}
 use Rattle.sz_value.specs.Seen.{seen, seen_pair}
-use Rattle.sz_value.specs.Weight.{full_weight, weight_of, entries_weight}
+use Rattle.sz_value.specs.Weight.{weight_of, entries_weight}
 use Rattle.sz_value.specs.Maps.{with_pair, with_pairs}
 use Rattle.sz_value.specs.declared.value.Value.{Value}
 use Rattle.sz_value.specs.declared.value.Value.TheVariants as values

@@ -3,7 +3,7 @@ use Rattle.std.proofs.Common.{◌≡◌, ◌∙◌, ℕ, zero, suc, ◌+◌, ◌
 use Rattle.std.specs.Prelude.{min}
 use Rattle.std.specs.List.{list_all}
 use Rattle.sz_value.specs.Data.{Datum, data_of}
-use Rattle.sz_value.specs.Weight.{full_weight, weight_of, data_weight}
+use Rattle.sz_value.specs.Weight.{weight_of, data_weight}
 use Rattle.sz_world_rules.specs.Slots.{Slot, all_defined}
 use Rattle.sz_world_rules.specs.Ticks.{result_weight, weight_of_all}
 use Rattle.sz_world_rules.specs.Emits.{weight_if_all}

@@ -1,5 +1,5 @@
 -- Keys and values that are looked at where they stand, as the pairs of a map.
-use Rattle.std.specs.Prelude.{◌≡◌, ⊤, ℕ, ◌+◌, List, [], ◌∷◌, map, Bool, true, false, cond}
+use Rattle.std.specs.Prelude.{◌≡◌, ⊤, ℕ, ◌+◌, List, [], ◌∷◌, map, Bool, false, cond}
 use Rattle.std.specs.Ordering.{is_eq, is_lt}
 use Rattle.sz_value.specs.Data.{Datum}
 use Rattle.sz_value.specs.Order.{compare}

@@ -1,6 +1,6 @@
 //! The routine that runs, and those that wait.
-ghost use Rattle.std.specs.Prelude.{◌≡◌, ◌<◌, ◌≤◌, [], ◌∷◌, length, drop, slice_get, slice_set, Some, None, IfOk, OnErr, OnOk, IsOkAnd};
-ghost use Rattle.std.specs.Prelude.{◌++◌, ◌-◌, ◌^◌, not};
+ghost use Rattle.std.specs.Prelude.{◌≡◌, ◌<◌, ◌≤◌, [], ◌∷◌, length, drop, slice_get, slice_set, Some, None, IfOk, OnErr, OnOk};
+ghost use Rattle.std.specs.Prelude.{◌++◌, ◌-◌, not};
 ghost use Rattle.sz_world_rules.specs.Slots.{undefined_slots};
 ghost use Rattle.sz_machine_rules.specs.States.{popped};
 ghost use Rattle.sz_machine_cells.specs.Calls.{is_used_up, after_next, caller};

@@ -3,7 +3,7 @@ ghost use Rattle.std.specs.Prelude.{◌≡◌, ◌∷◌, [], ◌<◌, ◌^◌, 
 ghost use Rattle.std.specs.Map.{keys_of};
 ghost use Rattle.sz_value.specs.Seen.{seen, seen_pairs};
 ghost use Rattle.sz_builtin.specs.Views.{seen_view};
-ghost use Rattle.sz_world_rules.specs.Candidates.{numbers_from, candidates};
+ghost use Rattle.sz_world_rules.specs.Candidates.{candidates};
 ghost use Rattle.sz_machine_cells.specs.Candidates.{numbers_of};
 
 use crate::cell::Cell;

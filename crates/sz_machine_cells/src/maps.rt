@@ -1,6 +1,5 @@
 //! Maps of operands, which are weighed before anything is copied.
-ghost use Rattle.std.specs.Prelude.{◌≡◌, ◌+◌, ◌<◌, ◌≤◌, [], nat_le, drop, reverse, IfOk, IfSome, IfNone};
-ghost use Rattle.std.specs.Ordering.{ordering_reverse};
+ghost use Rattle.std.specs.Prelude.{◌≡◌, ◌+◌, ◌<◌, ◌≤◌, [], nat_le, reverse, IfOk, IfSome, IfNone};
 ghost use Rattle.sz_value.specs.Data.{mapping, entries_of, bytes};
 ghost use Rattle.sz_value.specs.Order.{compare};
 ghost use Rattle.sz_value.specs.Seen.{seen};

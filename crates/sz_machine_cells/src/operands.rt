@@ -1,5 +1,5 @@
 //! The operands of a run.
-ghost use Rattle.std.specs.Prelude.{◌≡◌, ◌≤◌, ◌<◌, ◌+◌, IfNone, true, [], ◌∷◌, length, map, take, drop, ◌++◌, is_some, IfOk, IfSome, OnOk, OnErr, Some};
+ghost use Rattle.std.specs.Prelude.{◌≡◌, ◌≤◌, ◌<◌, ◌+◌, IfNone, [], ◌∷◌, length, map, take, drop, ◌++◌, is_some, IfOk, IfSome, OnOk, OnErr, Some};
 ghost use Rattle.std.specs.List.{list_all};
 ghost use Rattle.sz_value.specs.Data.{int};
 ghost use Rattle.sz_value.specs.Seen.{seen};

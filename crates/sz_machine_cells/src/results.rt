@@ -1,7 +1,7 @@
 //! What operators, functions, conversions and composites make of operands.
 ghost use Rattle.std.specs.Prelude.{◌≡◌, ◌∷◌, [], ℕ, IfOk, Some, take, drop};
 ghost use Rattle.sz_types.specs.Seen.{seen as seen_type};
-ghost use Rattle.sz_value.specs.Data.{bytes, int};
+ghost use Rattle.sz_value.specs.Data.{bytes};
 ghost use Rattle.sz_builtin.specs.Conversions.{convert};
 ghost use Rattle.sz_builtin.specs.Places.{slice, index};
 ghost use Rattle.sz_builtin.specs.Views.{seen_view};

@@ -1,9 +1,8 @@
 //! The ticks that a result adds to the charge of its line.
 ghost use Rattle.std.specs.Prelude.{◌≡◌, Some};
-ghost use Rattle.sz_types.specs.Data.{Shape, FieldShapes, str, bytes, proto};
+ghost use Rattle.sz_types.specs.Data.{FieldShapes, str, bytes, proto};
 ghost use Rattle.sz_types.specs.Seen.{seen as seen_type};
 ghost use Rattle.sz_value.specs.Data.{bytes as octets};
-ghost use Rattle.sz_value.specs.Seen.{seen};
 ghost use Rattle.sz_value.specs.Weight.{weight_of};
 ghost use Rattle.sz_builtin.specs.Views.{seen_view};
 ghost use Rattle.sz_world_rules.specs.Ticks.{result_weight, sum_weight, binary_weight, builtin_weight, conversion_weight};

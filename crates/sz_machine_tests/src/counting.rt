@@ -1,9 +1,9 @@
 //! That the line of each use of an undefined value is counted, where the code counts lines.
-ghost use Rattle.std.specs.Prelude.{◌≡◌, [], ◌∷◌, ◌++◌, IfOk, OnOk};
+ghost use Rattle.std.specs.Prelude.{◌≡◌, [], ◌∷◌, ◌++◌, IfOk};
 ghost use Rattle.sz_types.specs.SeenTables.{seen_table};
 ghost use Rattle.sz_instr.specs.declared.line.Line.{Line};
 ghost use Rattle.sz_instr.specs.Example.{line_of};
-ghost use Rattle.sz_machine_tests.specs.Counting.{quotient, uses, counts, counting};
+ghost use Rattle.sz_machine_tests.specs.Counting.{quotient, counts, counting};
 
 use crate::example::{line, one_table};
 use std::alloc::Global;

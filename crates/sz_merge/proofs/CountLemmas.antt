@@ -1,6 +1,6 @@
 -- How many index lists and rows there are in a saved file, and in what is joined: no more than the files have bytes. So their numbers can be
 -- spelled again.
-use Rattle.std.proofs.Common.{◌≡◌, ◌∙◌, ℕ, zero, suc, ◌+◌, ◌^◌, ◌<◌, ◌≤◌, nat_lt, Bool, true, false, cond, ◌||◌, ⊎_elim, List, [], ◌∷◌, ◌++◌, length}
+use Rattle.std.proofs.Common.{◌≡◌, ℕ, zero, suc, ◌+◌, ◌^◌, ◌<◌, ◌≤◌, nat_lt, Bool, true, false, cond, ◌||◌, ⊎_elim, List, [], ◌∷◌, ◌++◌, length}
 use Rattle.std.proofs.Common.{map, take, flat_map, zip, refl, sym, ap, subst, arith}
 use Rattle.std.proofs.Common.{Ordering}
 use Rattle.std.specs.Prelude.{option_to_list}
@@ -22,8 +22,8 @@ use Rattle.sz_tabs.specs.Sorting.{sorted, distinct}
 use Rattle.sz_tabs.specs.Rows.{value_row, overflow_row, set_rows}
 use Rattle.sz_total.specs.Tables.{Indexed}
 use Rattle.sz_save_format.specs.Declarations.{declaration_bytes}
-use Rattle.sz_save_format.specs.Entries.{IsCount, count_bytes, shown_bytes, rank_bytes, row_bytes, front_bytes, entry_bytes, entries_bytes, overflows}
-use Rattle.sz_save_format.specs.Entries.{ShowsSavedValue, IsSavedRow, AreSavedRows, AreSumRows, HaveRows, IsSavedEntry}
+use Rattle.sz_save_format.specs.Entries.{count_bytes, shown_bytes, rank_bytes, row_bytes, front_bytes, entry_bytes, entries_bytes, overflows}
+use Rattle.sz_save_format.specs.Entries.{ShowsSavedValue, IsSavedRow, AreSumRows, HaveRows, IsSavedEntry}
 use Rattle.sz_save_format.specs.Saved.{SavedState, mark, table_bytes, tables_of, IsSavedTable, Saves}
 use Rattle.sz_save.specs.Joined.{value_in, values_shown, least_rows, greatest_rows, joined_sums, joined_sets, joined_rows}
 use Rattle.sz_save.specs.Walk.{joined_entries, joined_tables, HasCountedRows, AreCounted}

@@ -3,7 +3,6 @@ ghost use Rattle.std.specs.Prelude.{◌≡◌, ◌++◌, List, length, IfOk, OnO
 ghost use Rattle.sz_types.specs.SeenTables.{seen_table};
 ghost use Rattle.sz_tabs.specs.Data.{EmitDatum};
 ghost use Rattle.sz_total.specs.States.{declarations, emit_count, shown};
-ghost use Rattle.sz_total.specs.Tables.{Indexed};
 ghost use Rattle.sz_total.specs.Totals.{StandsFor};
 ghost use Rattle.sz_print.specs.Tables.{table_lines, rows_text, lists_text, tables_text};
 

@@ -1,5 +1,5 @@
 //! Arrays of scalars: all elements that the occurrences hold.
-ghost use Rattle.std.specs.Prelude.{◌≡◌, ℕ, ℤ, List, length, map, Option, Some, IfOk, OnOk, ◌++◌};
+ghost use Rattle.std.specs.Prelude.{◌≡◌, ℕ, List, length, map, Some, IfOk, OnOk, ◌++◌};
 ghost use Rattle.sz_value.specs.Data as values;
 ghost use Rattle.sz_value.specs.Seen.{seen, seen_slot};
 ghost use Rattle.sz_wire.specs.Field.{content_in, LiesBefore};

@@ -1,6 +1,5 @@
 //! The value of a message, down its type.
 ghost use Rattle.std.specs.Prelude.{◌≡◌, ◌≤◌, ◌+◌, ◌∷◌, [], length, map, IfOk};
-ghost use Rattle.std.specs.Option.{option_map};
 ghost use Rattle.sz_types.specs.Data.{fields_of};
 ghost use Rattle.sz_types.specs.Seen.{seen, seen_field};
 ghost use Rattle.sz_value.specs.Data as values;

@@ -1,5 +1,5 @@
 //! Parts that are passed over: tokens in which brackets match.
-ghost use Rattle.std.specs.Prelude.{◌≡◌, List, [], Option};
+ghost use Rattle.std.specs.Prelude.{◌≡◌, [], Option};
 ghost use Rattle.sz_protofile.specs.Brackets.{is_closing, opens, sign_turn, turn_of, innermost, outer, at_end, past};
 ghost use Rattle.sz_protofile.specs.Outcome.{Gives};
 

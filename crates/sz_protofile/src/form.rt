@@ -1,5 +1,4 @@
 //! Forms that parts of a file and parts of a message share.
-ghost use Rattle.std.specs.Prelude.{◌≡◌};
 ghost use Rattle.sz_protofile_lex.specs.Lexemes.{lexeme_of};
 ghost use Rattle.sz_protofile.specs.Forms.{ended, braced, closed, listed, past_options, message_at, enum_at, declared_at, setting_at, block_at};
 ghost use Rattle.sz_protofile.specs.Outcome.{Gives};

@@ -1,5 +1,4 @@
 //! Parts of a file.
-ghost use Rattle.std.specs.Prelude.{◌≡◌};
 ghost use Rattle.sz_protofile_lex.specs.Lexemes.{lexeme_of};
 ghost use Rattle.sz_protofile.specs.Forms.{syntax_at, package_at, past_manner, import_at, service_at, header_at, body_at, item_at};
 ghost use Rattle.sz_protofile.specs.Outcome.{Gives};

@@ -1,5 +1,4 @@
 //! Parts of a message.
-ghost use Rattle.std.specs.Prelude.{◌≡◌};
 ghost use Rattle.sz_protofile_lex.specs.Lexemes.{lexeme_of};
 ghost use Rattle.sz_protofile.specs.Forms.{settings_at, oneof_at, member_at, group_at, past_map, map_at, field_at, label_is, label_at, labelled_group_at, labelled_field_at, any_group_at, any_field_at, members_at, others_at, part_at, end_at, inner_at};
 ghost use Rattle.sz_protofile.specs.Outcome.{Gives};

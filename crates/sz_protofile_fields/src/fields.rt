@@ -1,6 +1,5 @@
 //! The fields of the messages of a file.
 ghost use Rattle.std.specs.Prelude.{◌≡◌, [], IfOk, OnOk, ◌++◌};
-ghost use Rattle.std.specs.String.{string_bytes};
 ghost use Rattle.sz_protofile_rules.specs.Names.{spelled};
 ghost use Rattle.sz_protofile_rules.specs.Fields.{field_in, field_by, fields_in};
 ghost use Rattle.sz_protofile_rules.specs.Types.{all_fields};

@@ -38,7 +38,7 @@ use Rattle.std.proofs.lemmas.Str.{IsUtf8-from_ascii, is_utf8-from_IsUtf8}
 use Rattle.std.proofs.lemmas.Str.Ascii.{IsAscii-nil, IsAscii-cons}
 use Rattle.std.proofs.Common.{IsAscii}
 use Rattle.sz_types.specs.Data as data_of
-use Rattle.sz_types.specs.Data.{Shape, FieldShape, FieldShapes, fields_of}
+use Rattle.sz_types.specs.Data.{Shape, FieldShape, fields_of}
 use Rattle.sz_types.specs.declared.encoding.Encoding.{Encoding}
 use Rattle.sz_types.specs.declared.encoding.Encoding.TheVariants as encodings
 use Rattle.sz_lex.specs.Classes.{is_letter, is_word}
@@ -51,7 +51,7 @@ use Rattle.sz_lex.specs.declared.word.Word.TheVariants as words
 use Rattle.sz_lex.proofs.WordLemmas.{word_again, word_spells, letter_word}
 use Rattle.sz_protofile_lex.specs.declared.token.Token.{Token}
 use Rattle.sz_protofile_lex.specs.Lexemes.{lexeme_of}
-use Rattle.sz_protofile.specs.Reading.{Spelling, is_name}
+use Rattle.sz_protofile.specs.Reading.{is_name}
 use Rattle.sz_protofile.specs.declared.line.Line.{Line}
 use Rattle.sz_protofile.specs.declared.line.Line.TheVariants as lines
 use Rattle.sz_protofile_rules.specs.declared.field.FieldIn.{FieldIn}
@@ -63,7 +63,7 @@ use Rattle.sz_protofile_rules.specs.Names.{spelled, unreserved, messages_in, aro
 use Rattle.sz_protofile_rules.specs.Scalars.{shape_of}
 use Rattle.sz_protofile_rules.specs.Lookup.{Known, known_in, message_names_in}
 use Rattle.sz_protofile_rules.specs.Fields.{as_field, field_by, fields_in, nothing, plainly, again, once, Makes, none, own, other}
-use Rattle.sz_protofile_rules.specs.Types.{TypeShape, all_fields, AreTypes, field_count, field_counts, HasTypes, named}
+use Rattle.sz_protofile_rules.specs.Types.{TypeShape, all_fields, AreTypes, field_count, field_counts, HasTypes}
 use Rattle.sz_protofile_types.proofs.ForCallers.{target_of}
 use Rattle.sz_protofile_laws.specs.Named.{IsFieldName, AreNamed, FieldsAreNamed}
 use Rattle.sz_protofile_laws.proofs.NamedLines.{AllNamed, lines_named}

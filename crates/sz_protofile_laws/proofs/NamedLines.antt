@@ -22,10 +22,9 @@ use Rattle.sz_protofile.specs.Reading.{
   name_at,
   number_at,
 }
-use Rattle.sz_protofile.specs.Brackets.{past}
-use Rattle.sz_protofile.specs.Forms.{ended, braced, closed, listed, past_options, message_at, enum_at, declared_at, setting_at, block_at, syntax_at, package_at}
-use Rattle.sz_protofile.specs.Forms.{past_manner, import_at, service_at, header_at, body_at, item_at, settings_at, oneof_at, member_at, group_at, past_map}
-use Rattle.sz_protofile.specs.Forms.{map_at, field_at, label_is, label_at, labelled_group_at, any_group_at, labelled_field_at, any_field_at, members_at}
+use Rattle.sz_protofile.specs.Forms.{ended, closed, message_at, enum_at, declared_at, setting_at, block_at, syntax_at, package_at}
+use Rattle.sz_protofile.specs.Forms.{import_at, service_at, header_at, body_at, item_at, settings_at, oneof_at, member_at, group_at}
+use Rattle.sz_protofile.specs.Forms.{map_at, field_at, labelled_group_at, any_group_at, labelled_field_at, any_field_at, members_at}
 use Rattle.sz_protofile.specs.Forms.{others_at, part_at, inner_at, line_at, end_at}
 use Rattle.sz_protofile.specs.Lines.{depth_after, Reads}
 

@@ -5,7 +5,7 @@ use Rattle.std.proofs.lemmas.Bool.{false≢true, ltb-true, le-leb}
 use Rattle.std.proofs.lemmas.Bool.Decides.{Decides-eqb}
 use Rattle.std.proofs.lemmas.Slice.Eq.{bytes_eq-Decides}
 use Rattle.sz_types.specs.Data as data_of
-use Rattle.sz_types.specs.Data.{Shape, FieldShape, FieldShapes, no_fields, with_field, field, fields_of}
+use Rattle.sz_types.specs.Data.{Shape, FieldShape, FieldShapes, no_fields, fields_of}
 use Rattle.sz_types.specs.Conversions.{IsProto}
 use Rattle.sz_types.specs.declared.encoding.Encoding.{Encoding}
 use Rattle.sz_types.specs.declared.encoding.Encoding.TheVariants as encodings

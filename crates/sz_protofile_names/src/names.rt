@@ -1,5 +1,5 @@
 //! Names, each once, found by hashing.
-ghost use Rattle.std.specs.Prelude.{◌≡◌, [], not, IfOk, if◌then◌else◌, ◌++◌, ◌∷◌};
+ghost use Rattle.std.specs.Prelude.{◌≡◌, [], not, IfOk, ◌∷◌};
 ghost use Rattle.std.specs.String.{string_bytes};
 ghost use Rattle.sz_protofile_rules.specs.Names.{has_name};
 ghost use Rattle.sz_protofile_rules.specs.Lookup.{with_name};

@@ -1,5 +1,5 @@
 -- The fields of messages, and which of them are kept.
-use Rattle.std.specs.Prelude.{◌≡◌, ℕ, List, [], ◌∷◌, ◌++◌, Option, Some, None, Contains, Bool, if◌then◌else◌}
+use Rattle.std.specs.Prelude.{◌≡◌, ℕ, List, [], ◌∷◌, ◌++◌, Option, Some, None, Contains, if◌then◌else◌}
 use Rattle.sz_types.specs.Data as data_of
 use Rattle.sz_types.specs.Data.{Shape, FieldShape, field}
 use Rattle.sz_types.specs.declared.encoding.Encoding.{Encoding}

@@ -3,7 +3,6 @@ use Rattle.std.proofs.Common.{◌≡◌, ℕ, zero, suc, ◌+◌, ◌<◌, ◌�
 use Rattle.std.specs.List.{sum_by}
 use Rattle.std.proofs.lemmas.Bool.{cases_lt, lt-ltb, le-ltb, lt-leb}
 use Rattle.std.proofs.lemmas.List.Sums.{sum_by-cons}
-use Rattle.std.proofs.lemmas.Slice.Eq.{bytes_eq-Decides}
 use Rattle.sz_types.specs.Data as data_of
 use Rattle.sz_types.specs.Data.{Shape, FieldShape, fields_of}
 use Rattle.sz_types.specs.declared.encoding.Encoding.TheVariants as encodings
@@ -13,7 +12,7 @@ use Rattle.sz_protofile_rules.specs.declared.field.PlainKind.TheVariants as kind
 use Rattle.sz_protofile_rules.specs.declared.field.Sort.{Sort}
 use Rattle.sz_protofile_rules.specs.declared.field.Sort.TheVariants as sorts
 use Rattle.sz_protofile_rules.specs.Scalars.{shape_of}
-use Rattle.sz_protofile_rules.specs.Types.{field_count, field_count_in, field_counts, most_fields}
+use Rattle.sz_protofile_rules.specs.Types.{field_count, field_counts, most_fields}
 use Rattle.sz_protofile_loops.specs.Ranks.{Ranking, rank}
 use Rattle.sz_protofile_types.specs.Making.{Made, type_in, added_as, added_by, after_field}
 use Rattle.sz_protofile_types.specs.Holding.{capped, number_as, after_counted}

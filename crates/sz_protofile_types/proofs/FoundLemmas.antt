@@ -1,5 +1,5 @@
 -- A file has one list of types, and so one number of fields in them.
-use Rattle.std.proofs.Common.{◌≡◌, ℕ, zero, suc, ◌<◌, ◌≤◌, true, false, nat_le, List, [], ◌∷◌, map, refl, sym, ap, subst, ◌∙◌, arith, Option, Some, None}
+use Rattle.std.proofs.Common.{◌≡◌, ℕ, zero, suc, ◌<◌, nat_le, List, [], ◌∷◌, map, refl, sym, ap, subst, ◌∙◌, arith, Option, Some, None}
 use Rattle.std.specs.List.{Contains, sum}
 use Rattle.std.proofs.lemmas.Bool.{leb-true, leb-false}
 use Rattle.sz_types.specs.Data.{Shape}
@@ -8,7 +8,7 @@ use Rattle.sz_protofile.specs.declared.line.Line.{Line}
 use Rattle.sz_protofile_rules.specs.declared.scope.Scope.{Scope}
 use Rattle.sz_protofile_rules.specs.Names.{unreserved, messages_in}
 use Rattle.sz_protofile_rules.specs.declared.field.FieldIn.{FieldIn}
-use Rattle.sz_protofile_rules.specs.Types.{TypeShape, AreTypes, field_count, most_fields, named, total, all_fields}
+use Rattle.sz_protofile_rules.specs.Types.{TypeShape, AreTypes, field_count, most_fields, all_fields}
 use Rattle.sz_protofile_loops.specs.Ranks.{Ranking, IsRanking}
 use Rattle.sz_protofile_types.specs.Making.{IsInOrder, type_in, made_of, type_named, number_of_fields, AreMadeIfFew, HaveOneType, AreFound}
 use Rattle.sz_protofile_types.proofs.MakingLemmas.{are_types}

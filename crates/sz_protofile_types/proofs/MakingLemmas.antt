@@ -1,8 +1,8 @@
 -- Fields that are made by rising ranks give the types of a file.
-use Rattle.std.proofs.Common.{◌≡◌, ℕ, zero, suc, ◌<◌, ◌≤◌, ◌⊎◌, inl, inr, Bool, true, false, cond, nat_lt, List, [], ◌∷◌, ◌++◌, length, slice_index_or, refl, sym, ap, subst, ◌∙◌, arith, bytes_eq}
+use Rattle.std.proofs.Common.{◌≡◌, ℕ, zero, suc, ◌<◌, Bool, true, false, cond, nat_lt, List, [], ◌∷◌, ◌++◌, length, slice_index_or, refl, sym, ap, subst, ◌∙◌, arith, bytes_eq}
 use Rattle.std.specs.List.{Contains, filter, flat_map}
 use Rattle.std.specs.List.Sorted.{IsNonDecreasingBy}
-use Rattle.std.proofs.lemmas.Bool.{cond-true, cond-false, cases_Bool, ltb-true, ltb-false}
+use Rattle.std.proofs.lemmas.Bool.{cond-false, ltb-true, ltb-false}
 use Rattle.std.proofs.lemmas.List.{append_assoc, append-nil}
 use Rattle.std.proofs.lemmas.Slice.Eq.{bytes_eq-Decides}
 use Rattle.sz_types.specs.Data.{FieldShape}
@@ -12,7 +12,7 @@ use Rattle.sz_protofile.specs.declared.line.Line.{Line}
 use Rattle.sz_protofile_rules.specs.declared.field.FieldIn.{FieldIn}
 use Rattle.sz_protofile_rules.specs.declared.field.Sort.{Sort}
 use Rattle.sz_protofile_rules.specs.declared.field.Sort.TheVariants as sorts
-use Rattle.sz_protofile_rules.specs.Fields.{Reaches, as_field, Adds, nothing, plainly, again, once, Makes, none, own, other}
+use Rattle.sz_protofile_rules.specs.Fields.{as_field, Adds, nothing, plainly, again, once, Makes, none, own, other}
 use Rattle.sz_protofile_rules.specs.Types.{all_fields, AreTypes}
 use Rattle.sz_protofile_loops.specs.Ranks.{Ranking, rank, IsRanking}
 use Rattle.sz_protofile_types.specs.Making.{stands_in, IsInOrder, Made, nothing_made, type_in, added_as, added_by, after_field, made_after, made_of}

@@ -1,5 +1,5 @@
 -- What is found decides what a file is answered with.
-use Rattle.std.proofs.Common.{◌≡◌, ℕ, ◌<◌, ◌≤◌, List, Option, Some, None, refl, sym, ap, subst, ◌∙◌, arith}
+use Rattle.std.proofs.Common.{◌≡◌, ℕ, List, Some, None, refl, sym, ap, subst, ◌∙◌, arith}
 use Rattle.sz_protofile.specs.declared.line.Line.{Line}
 use Rattle.sz_protofile_rules.specs.declared.fault.Fault.{Fault}
 use Rattle.sz_protofile_rules.specs.Names.{spelled}

@@ -1,6 +1,6 @@
 -- The type of a field that has a message's is that of a message of the file.
-use Rattle.std.proofs.Common.{◌≡◌, ℕ, zero, suc, ◌<◌, ◌⊎◌, inl, inr, Bool, true, false, ◌||◌, if◌then◌else◌, List, [], ◌∷◌, ◌++◌, Option, None, Some, bytes_eq, option_to_list, get_or, refl, sym, ap, subst, ◌∙◌, arith}
-use Rattle.std.specs.List.{Contains, list_any}
+use Rattle.std.proofs.Common.{◌≡◌, ℕ, zero, suc, ◌<◌, ◌⊎◌, inl, inr, Bool, true, false, ◌||◌, if◌then◌else◌, List, [], ◌∷◌, ◌++◌, Option, None, Some, bytes_eq, option_to_list, get_or, refl, sym, ap, ◌∙◌, arith}
+use Rattle.std.specs.List.{Contains}
 use Rattle.std.proofs.lemmas.Bool.{false≢true}
 use Rattle.std.proofs.lemmas.List.Elements.{Contains-append_left, Contains-append_right, Contains-append_cases}
 use Rattle.std.proofs.lemmas.Slice.Eq.{bytes_eq-Decides}
@@ -9,7 +9,6 @@ use Rattle.sz_protofile.specs.declared.line.Line.{Line}
 use Rattle.sz_protofile.specs.declared.line.Line.TheVariants as lines
 use Rattle.sz_protofile_rules.specs.declared.field.FieldIn.{FieldIn}
 use Rattle.sz_protofile_rules.specs.declared.field.Plain.{Plain}
-use Rattle.sz_protofile_rules.specs.declared.field.Sort.{Sort}
 use Rattle.sz_protofile_rules.specs.declared.field.Sort.TheVariants as sorts
 use Rattle.sz_protofile_rules.specs.declared.scalar.Scalar.{Scalar}
 use Rattle.sz_protofile_rules.specs.declared.scope.Scope.{Scope}

@@ -1,5 +1,5 @@
 -- A file has one type for each message at most, since a field that is kept has a message's type of a lower rank.
-use Rattle.std.proofs.Common.{◌≡◌, ◌≢◌, ℕ, zero, suc, ◌<◌, ◌≤◌, List, [], ◌∷◌, ◌++◌, refl, sym, ap, subst, ◌∙◌, arith}
+use Rattle.std.proofs.Common.{◌≡◌, ℕ, zero, suc, ◌<◌, List, [], ◌∷◌, ◌++◌, refl, sym, ap, subst, ◌∙◌, arith}
 use Rattle.std.specs.List.{Contains}
 use Rattle.sz_types.specs.Data as data_of
 use Rattle.sz_types.specs.Data.{Shape, FieldShape, fields_of}
@@ -8,7 +8,6 @@ use Rattle.sz_protofile.specs.Reading.{Spelling}
 use Rattle.sz_protofile.specs.declared.line.Line.{Line}
 use Rattle.sz_protofile_rules.specs.declared.field.FieldIn.{FieldIn}
 use Rattle.sz_protofile_rules.specs.declared.field.Plain.{Plain}
-use Rattle.sz_protofile_rules.specs.declared.field.Sort.{Sort}
 use Rattle.sz_protofile_rules.specs.declared.field.Sort.TheVariants as sorts
 use Rattle.sz_protofile_rules.specs.declared.scope.Scope.{Scope}
 use Rattle.sz_protofile_rules.specs.Names.{messages_in}

@@ -4,11 +4,9 @@ ghost use Rattle.std.specs.Str.{bytes_eq};
 ghost use Rattle.indexmap.specs.IndexMap.{get_by_text};
 ghost use Rattle.sz_types.specs.Data.{array};
 ghost use Rattle.sz_types.specs.Seen.{seen, seen_field};
-ghost use Rattle.sz_protofile_rules.specs.declared.scope.Scope.{Scope as Called};
 ghost use Rattle.sz_protofile_rules.specs.Names.{unreserved};
 ghost use Rattle.sz_protofile_rules.specs.Scalars.{shape_of};
 ghost use Rattle.sz_protofile_rules.specs.Fields.{as_field};
-ghost use Rattle.sz_protofile_rules.specs.Types.{TypeShape};
 ghost use Rattle.sz_protofile_types.specs.Making.{type_in, made_of, added_by, after_field, type_named};
 ghost use Rattle.sz_protofile_types.specs.Holding.{seen_found};
 

@@ -7,7 +7,7 @@ use Rattle.sz_records.specs.declared.ending.Ending.{Ending}
 use Rattle.sz_records.specs.declared.ending.Ending.TheVariants.{Whole}
 use Rattle.sz_records.specs.declared.limits.FrameLimits.{FrameLimits}
 use Rattle.sz_records.specs.Cutting.{Standing, record_of, stopped, unfinished, at_end, BeginsWith, standing, IsCut, place_after}
-use Rattle.sz_records.specs.Behind.{IsCutBehind, RestIsCutSo}
+use Rattle.sz_records.specs.Behind.{RestIsCutSo}
 use Rattle.sz_records.proofs.StandingLemmas.{nothing_stands, lines_within}
 use Rattle.sz_records.proofs.CutLemmas.{cut_end, place_now, place_passed, place_ended, same_places}
 use Rattle.sz_records.proofs.CutLaws.{records_are_few}

@@ -1,5 +1,5 @@
 -- What cutting promises inside the crate.
-use Rattle.std.specs.Prelude.{◌≡◌, ℕ, ◌+◌, ◌<◌, ◌≤◌, List, [], ◌∷◌, ◌++◌, length, Option, Some, None}
+use Rattle.std.specs.Prelude.{◌≡◌, ℕ, ◌+◌, ◌<◌, ◌≤◌, List, ◌++◌, length, Option, Some, None}
 use Rattle.sz_types.specs.declared.frame.Frame.{Frame}
 use Rattle.sz_types.specs.declared.frame.Frame.TheVariants.{Lines}
 use Rattle.sz_records.specs.declared.cutter.Cutter.{Cutter}

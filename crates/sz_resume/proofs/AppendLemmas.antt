@@ -1,5 +1,5 @@
 -- A round that was run and is appended to the journal.
-use Rattle.std.proofs.Common.{◌≡◌, inl, inr, ℕ, ◌+◌, ◌-◌, ◌^◌, ◌≤◌, true, List, [], ◌∷◌, ◌++◌, length, drop, Option, Some, None, IfSome}
+use Rattle.std.proofs.Common.{◌≡◌, inl, inr, ℕ, ◌+◌, ◌^◌, ◌≤◌, true, List, [], ◌∷◌, ◌++◌, length, drop, Option, Some, None, IfSome}
 use Rattle.std.proofs.Common.{refl, sym, subst, arith, append-nil}
 use Rattle.sz_types.specs.Tables.{Declaration}
 use Rattle.sz_mean.specs.Marked.{all_tables}

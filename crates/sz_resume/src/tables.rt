@@ -13,7 +13,7 @@ ghost use Rattle.sz_merge.specs.declared.error.MergeError.TheVariants as errors;
 
 use std::alloc::Global;
 use sz_attempt::Job;
-use sz_journal_format::{RoundEntries, RoundEntry};
+use sz_journal_format::RoundEntries;
 use sz_merge::{MergeError, Merging};
 use sz_save::{NoMemory, Saved, one_spelling, save, write_saved};
 use sz_save_laws::saved_runs_join;

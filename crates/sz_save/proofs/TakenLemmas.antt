@@ -1,5 +1,5 @@
 -- The first index list of both sides, taken.
-use Rattle.std.proofs.Common.{◌≡◌, ◌∙◌, ℕ, zero, suc, ◌+◌, ◌<◌, ◌≤◌, Option, Some, None, List, [], ◌∷◌, length, drop, get_or, slice_get, refl, sym, ap, subst, arith, Ordering, Less, Equal, Greater}
+use Rattle.std.proofs.Common.{◌≡◌, ◌∙◌, ℕ, zero, suc, ◌+◌, ◌<◌, ◌≤◌, Some, None, List, [], ◌∷◌, length, drop, get_or, slice_get, refl, sym, ap, subst, arith, Less, Equal, Greater}
 use Rattle.sz_types.specs.declared.table.TableKind.{TableKind}
 use Rattle.sz_tabs.specs.Rows.{compare_indexes}
 use Rattle.sz_total.specs.Tables.{Indexed}

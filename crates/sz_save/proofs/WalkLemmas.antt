@@ -1,13 +1,12 @@
 -- The steps of the walk over the index lists of both sides.
-use Rattle.std.proofs.Common.{◌≡◌, ◌∙◌, ℕ, ◌+◌, ◌<◌, ◌≤◌, List, [], ◌∷◌, ◌++◌, length, map, refl, sym, ap, subst, arith, append_assoc, append-nil, Ordering, Less, Equal, Greater}
+use Rattle.std.proofs.Common.{◌≡◌, ◌∙◌, ℕ, ◌+◌, List, [], ◌∷◌, ◌++◌, length, sym, ap, subst, arith, append_assoc, append-nil, Ordering, Less, Equal, Greater}
 use Rattle.std.specs.List.{AllByRecursion}
 use Rattle.std.specs.Ordering.{match_ordering}
 use Rattle.sz_types.specs.declared.table.TableKind.{TableKind}
 use Rattle.sz_types.specs.declared.table.TableKind.TheVariants.{Sum, Maximum, Minimum, Set, Collection}
-use Rattle.sz_tabs.specs.Data.{RowDatum}
 use Rattle.sz_tabs.specs.Rows.{compare_indexes}
 use Rattle.sz_total.specs.Tables.{Indexed}
-use Rattle.sz_save.specs.Walk.{joined_entry, alone, other_alone, joined_entries, HasSum, CanAdd, RowsCanJoin, CanAddAll, CanJoin, HasCountedRows, Steps}
+use Rattle.sz_save.specs.Walk.{joined_entry, alone, other_alone, joined_entries, RowsCanJoin, CanJoin, HasCountedRows, Steps}
 
 -- what is asked of the sums goes for what is left
 pub can_after : (kind : TableKind) (e : Indexed) (es os : List Indexed) → CanJoin kind (e ∷ es) os → CanJoin kind es os

@@ -1,5 +1,5 @@
 -- The first index list of both sides, taken.
-use Rattle.std.specs.Prelude.{◌≡◌, ⊤, Some, None, List, [], ◌∷◌}
+use Rattle.std.specs.Prelude.{◌≡◌, Some, List, [], ◌∷◌}
 use Rattle.std.specs.declared.cmp.Ordering.TheVariants.{Less, Equal, Greater}
 use Rattle.sz_total.specs.Tables.{Indexed}
 use Rattle.sz_save.specs.declared.entries.First.{First}

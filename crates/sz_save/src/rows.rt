@@ -1,9 +1,9 @@
 //! The rows of both sides under one index list.
-ghost use Rattle.std.specs.Prelude.{◌≡◌, ◌++◌, ◌∷◌, [], map, take, IfOk, OnOk};
+ghost use Rattle.std.specs.Prelude.{◌≡◌, ◌++◌, ◌∷◌, [], map, take, IfOk};
 ghost use Rattle.sz_value.specs.Order.{compare};
 ghost use Rattle.sz_value.specs.Seen.{seen};
 ghost use Rattle.sz_tabs.specs.Rows.{value_row, overflow_row, set_rows};
-ghost use Rattle.sz_tabs.specs.Sorting.{sorted, distinct};
+ghost use Rattle.sz_tabs.specs.Sorting.{sorted};
 ghost use Rattle.sz_save_format.specs.Entries as format;
 ghost use Rattle.sz_save.specs.Joined.{values_shown, greatest_rows, least_rows, joined_sets, joined_rows};
 ghost use Rattle.sz_save.specs.Walk.{RowsCanJoin};

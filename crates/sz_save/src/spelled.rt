@@ -1,5 +1,5 @@
 //! That what tables show can be spelled: each value is spelled once, so that its number of bytes is known to be a count.
-ghost use Rattle.std.specs.Prelude.{◌≡◌, All, map, IfSome, OnOk};
+ghost use Rattle.std.specs.Prelude.{All, map, IfSome, OnOk};
 ghost use Rattle.std.specs.List.{AllByRecursion};
 ghost use Rattle.sz_value.specs.Seen.{seen};
 ghost use Rattle.sz_flat.specs.Spelling.{HasShortLengths};

@@ -1,5 +1,5 @@
 //! Values behind the number of their bytes, read from the front of bytes.
-ghost use Rattle.std.specs.Prelude.{◌≡◌, map};
+ghost use Rattle.std.specs.Prelude.{map};
 ghost use Rattle.sz_types.specs.Seen as shapes;
 ghost use Rattle.sz_value.specs.Seen.{seen};
 ghost use Rattle.sz_save_format.specs.Decoding.{Reads};

@@ -1,6 +1,5 @@
 //! Types, read from the front of bytes.
 ghost use Rattle.std.specs.Prelude.{◌≡◌, map};
-ghost use Rattle.std.specs.Option.{option_map};
 ghost use Rattle.sz_types.specs.Seen.{seen, seen_field};
 ghost use Rattle.sz_save_format.specs.Decoding.{Reads, numbering_at, field_at, fields_at, picked, type_cases, array_type_at, mapping_type_at, tuple_type_at, proto_type_at, type_at, saved_type_at, types_at, encoding_in};
 

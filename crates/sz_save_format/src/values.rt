@@ -1,5 +1,5 @@
 //! Values, read from the front of bytes by their types, so that no value is deeper than its type.
-ghost use Rattle.std.specs.Prelude.{◌≡◌, map, Some};
+ghost use Rattle.std.specs.Prelude.{◌≡◌, map};
 ghost use Rattle.sz_types.specs.Data.{fields_of};
 ghost use Rattle.sz_types.specs.Seen as shapes;
 ghost use Rattle.sz_value.specs.Seen.{seen, seen_pair, seen_pairs};

@@ -17,11 +17,11 @@ use Rattle.sz_tree.specs.Types.{Typ, Params}
 use Rattle.sz_tree.specs.Expressions.{Exp}
 use Rattle.sz_tree.specs.Statements.{TableForm, Stm, static, typedef, table, function, Stms, no_stms, stm}
 use Rattle.sz_parse.specs.Program.{Spells}
-use Rattle.sz_core.specs.Programs.{Signature, Static, Item, Core, tables_of}
+use Rattle.sz_core.specs.Programs.{Signature, Item, Core, tables_of}
 use Rattle.sz_core.specs.Programs as items
 use Rattle.sz_core.specs.Sound.{Declared, AreItems, nothing_declared, IsSound}
 use Rattle.sz_core.specs.WellFormed.{is_between, is_weight, has_no_weight, kind_allows, is_allowed}
-use Rattle.sz_check_rules.specs.Names.{Block, Named, Meaning, only, is_seen_by_functions, is_seen_by_statics}
+use Rattle.sz_check_rules.specs.Names.{Block, Named, only, is_seen_by_functions, is_seen_by_statics}
 use Rattle.sz_check_rules.specs.Names as names
 use Rattle.sz_check_rules.specs.Agreeing.{converted}
 use Rattle.sz_check_rules.specs.EmittingTrees.{emits_by, stms_emit}

@@ -5,12 +5,12 @@ use Rattle.sz_types.specs.Data.{Shape}
 use Rattle.sz_tree.specs.Names.{Ident}
 use Rattle.sz_tree.specs.Types.{Typ}
 use Rattle.sz_tree.specs.Expressions.{Exp}
-use Rattle.sz_tree.specs.Statements.{SimpleForm, FirstForm, QuantifierForm, Stm, empty, declare, define, static, typedef, table, function, simple, if_only, if_else, return, when, Stms}
+use Rattle.sz_tree.specs.Statements.{QuantifierForm, Stm, empty, declare, define, static, typedef, table, function, simple, if_only, if_else, return, when}
 use Rattle.sz_tree.specs.Statements as trees
 use Rattle.sz_core.specs.Nodes.{type_of}
 use Rattle.sz_core.specs.Statements as core
 use Rattle.sz_check_rules.specs.Refusals.{Judged}
-use Rattle.sz_check_rules.specs.Names.{Block, Meaning}
+use Rattle.sz_check_rules.specs.Names.{Meaning}
 use Rattle.sz_check_rules.specs.Names as names
 use Rattle.sz_check_rules.specs.Agreeing.{converted}
 use Rattle.sz_check_rules.specs.JudgingTypes.{judge_type}

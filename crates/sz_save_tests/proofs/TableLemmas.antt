@@ -1,5 +1,5 @@
 -- The tables of the tests can be saved, and numbers fit them.
-use Rattle.std.proofs.Common.{◌≡◌, ◌+◌, ◌^◌, ℤ, true, List, [], ◌∷◌, All, refl, sym, subst, arith, codes}
+use Rattle.std.proofs.Common.{◌≡◌, ℤ, true, List, [], ◌∷◌, refl, sym, subst, arith, codes}
 use Rattle.std.proofs.lemmas.List.Elements.{All-cons, All-nil}
 use Rattle.sz_types.specs.Tables.{Declaration}
 use Rattle.sz_types.specs.declared.table.TableKind.{TableKind}
@@ -14,7 +14,7 @@ use Rattle.sz_save_format.specs.Declarations.{IsSavedWeight}
 use Rattle.sz_save_format.specs.Decoding.{is_name}
 use Rattle.sz_save_format.proofs.NameLemmas.{name_told}
 use Rattle.sz_save.specs.Saving.{HaveSpelling}
-use Rattle.sz_save_tests.specs.Tables.{limit_for, weight_for, numbers_table, number_emit}
+use Rattle.sz_save_tests.specs.Tables.{limit_for, numbers_table, number_emit}
 
 allowed : (kind : TableKind) → is_allowed (numbers_table kind) ≡ true
 allowed Sum = refl

@@ -1,8 +1,7 @@
 //! The declarations of all open blocks in one list, each linked to the one that it hides.
-ghost use Rattle.std.specs.Prelude.{◌≡◌, ◌<◌, ◌≤◌, ◌++◌, ◌∷◌, [], ◌==◌, ℕ, suc, List, Bool, true, false, length, reverse, slice_get, set, Option, None, Some, IfOk, OnOk, OnErr, IfSome, IfNone};
+ghost use Rattle.std.specs.Prelude.{◌≡◌, ◌<◌, ◌≤◌, ◌++◌, ◌∷◌, [], ◌==◌, ℕ, suc, true, false, length, reverse, slice_get, set, Option, None, Some, IfOk, OnOk, OnErr, IfSome, IfNone};
 ghost use Rattle.std.specs.Option.{option_copied, option_map, ForSome};
-ghost use Rattle.sz_scope.specs.Blocks.{is_declared};
-ghost use Rattle.sz_scope.specs.Chain.{latest, first_where, without_deeper, blocks_of, HasRoomOf, IsIndexed, IsLinked, IsSound, IsWithin, FindsNewest, KeepsSound, TellsTwice};
+ghost use Rattle.sz_scope.specs.Chain.{without_deeper, HasRoomOf, IsIndexed, IsLinked, IsWithin, FindsNewest, KeepsSound, TellsTwice};
 ghost use Rattle.sz_scope.specs.Names.{place_of};
 ghost use Rattle.sz_scope.specs.Sight.{sees};
 

@@ -1,9 +1,8 @@
 //! Large tables: as many values as a limit lets in and one more, and a merge of a million index lists. No answer of want of memory comes
 //! but from the allocator, so none comes here.
-ghost use Rattle.std.specs.Prelude.{◌≡◌, ◌⊎◌, ◌∷◌, [], ◌≤◌, ◌<◌, ◌+◌, ◌^◌, true, false, All, is_some, IfOk};
+ghost use Rattle.std.specs.Prelude.{◌≡◌, ◌∷◌, [], ◌≤◌, ◌<◌, ◌+◌, ◌^◌, true, false, All, IfOk};
 ghost use Rattle.sz_types.specs.Data.{Shape};
 ghost use Rattle.sz_types.specs.SeenTables.{seen_table};
-ghost use Rattle.sz_types.specs.declared.table.TableKind.TheVariants as kinds;
 ghost use Rattle.sz_total.specs.Weights.{HaveTheirWeights};
 
 use crate::dealing::merged;

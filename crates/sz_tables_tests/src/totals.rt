@@ -3,7 +3,6 @@ ghost use Rattle.std.specs.Prelude.{◌≡◌, ◌∷◌, [], ◌≤◌, ◌<◌
 ghost use Rattle.sz_types.specs.Data.{Shape};
 ghost use Rattle.sz_types.specs.SeenTables.{seen_table};
 ghost use Rattle.sz_value.specs.Data.{int};
-ghost use Rattle.sz_value.specs.Seen.{seen};
 ghost use Rattle.sz_total.specs.Weights.{HaveTheirWeights};
 
 use crate::tables::{add_number, are_same, indexed_table, numbers_from, numbers_in};

@@ -1,5 +1,5 @@
 //! Laws of the definitions, each a function that does nothing and whose contract is the law.
-ghost use Rattle.std.specs.Prelude.{◌≡◌, ◌↔◌, ◌⊎◌, IsTrue, true};
+ghost use Rattle.std.specs.Prelude.{◌≡◌, ◌↔◌, ◌⊎◌, IsTrue};
 ghost use Rattle.std.specs.List.{Contains};
 ghost use Rattle.sz_types.specs.Data.{Shape, bytes};
 ghost use Rattle.sz_types.specs.Same.{alike};

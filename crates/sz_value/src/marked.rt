@@ -1,5 +1,5 @@
 //! Texts that know where some of their characters stand.
-ghost use Rattle.std.specs.Prelude.{◌≡◌, ◌*◌, ◌+◌, ◌-◌, ◌<◌, ◌≤◌, ◌^◌, ◌++◌, ◌∷◌, [], length, chars, string_bytes, IfOk, IfSome, IfNone, OnOk};
+ghost use Rattle.std.specs.Prelude.{◌≡◌, ◌*◌, ◌+◌, ◌-◌, ◌<◌, ◌^◌, ◌++◌, ◌∷◌, [], length, chars, string_bytes, IfOk, IfSome, IfNone};
 ghost use Rattle.sz_value.specs.Characters.{IsRestAfter, IsMark, AreMarks};
 
 use crate::NoMemory;

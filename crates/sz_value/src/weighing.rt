@@ -1,5 +1,5 @@
 //! What a value weighs.
-ghost use Rattle.std.specs.Prelude.{◌≡◌, ◌+◌, ◌-◌, ◌^◌, min};
+ghost use Rattle.std.specs.Prelude.{◌≡◌, ◌-◌, ◌^◌, min};
 ghost use Rattle.sz_value.specs.Data.{data_of, entries_of};
 ghost use Rattle.sz_value.specs.Seen.{seen};
 ghost use Rattle.sz_value.specs.Weight.{weight_of, data_weight, entries_weight};

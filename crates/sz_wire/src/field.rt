@@ -1,7 +1,6 @@
 //! Fields of a message.
 
-ghost use Rattle.std.specs.Prelude.{◌≡◌, ◌<◌, ◌≤◌, ◌↔◌, length, drop, Option, Some, None, Ok, IfOk, IfSome, OnErr, IsErr};
-ghost use Rattle.sz_wire.specs.Key.{Key};
+ghost use Rattle.std.specs.Prelude.{◌≡◌, ◌<◌, ◌≤◌, ◌↔◌, length, drop, Option, Some, None, Ok, IfOk, IfSome, OnErr};
 ghost use Rattle.sz_wire.specs.Field.{value_at, field_at, content_in, field_in, LiesBefore, EndsAt};
 
 use crate::bad::Bad;

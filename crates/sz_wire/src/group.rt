@@ -1,7 +1,6 @@
 //! Groups, which are passed over.
 
 ghost use Rattle.std.specs.Prelude.{◌≡◌, ℕ, ◌-◌, ◌<◌, ◌≤◌, length, drop, Some, None, IfOk, OnErr};
-ghost use Rattle.sz_wire.specs.Key.{Key};
 ghost use Rattle.sz_wire.specs.Field.{group_end, value_end};
 
 use crate::bad::Bad;

@@ -1,5 +1,5 @@
 //! The names of files that a command has.
-ghost use Rattle.std.specs.Prelude.{◌≡◌, ◌≤◌, ◌∷◌, ℕ, List, map, length, true, false, option_map, IfOk, MatchOption};
+ghost use Rattle.std.specs.Prelude.{◌≡◌, ◌∷◌, ℕ, List, map, length, true, false, option_map, IfOk, MatchOption};
 ghost use Rattle.sz_words.specs.Settings.{files_in, all_are_files, are_files, can_be_joined};
 ghost use Rattle.sz_words.specs.Bounds.{InRange};
 

@@ -1,5 +1,5 @@
 //! The lists of `--kill` and `--twice`.
-ghost use Rattle.std.specs.Prelude.{◌≡◌, ◌∷◌, [], List, ℕ, IfOk, IfErr, OnOk, OnErr, Some, None};
+ghost use Rattle.std.specs.Prelude.{◌≡◌, ◌∷◌, [], List, ℕ, IfOk, IfErr, OnOk, Some, None};
 ghost use Rattle.sz_words.specs.Texts.{pieces};
 ghost use Rattle.sz_words.specs.Lists.{kills_with, kills_in, kill_of, is_killed, shards_with, shards_in, is_among};
 ghost use Rattle.sz_words.specs.declared.error.WordsError.TheVariants.{Usage};

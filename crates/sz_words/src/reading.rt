@@ -1,5 +1,5 @@
 //! What a command line asks for.
-ghost use Rattle.std.specs.Prelude.{◌≡◌, ◌≤◌, ◌^◌, map, not, true, false, string_bytes, IfOk, IfErr, MatchOption, Some, None};
+ghost use Rattle.std.specs.Prelude.{◌≡◌, map, not, true, false, string_bytes, IfOk, IfErr, Some, None};
 ghost use Rattle.std.specs.Prelude.{option_map, IfSome, if◌then◌else◌};
 ghost use Rattle.sz_words.specs.Matches.{names_in, values_in};
 ghost use Rattle.sz_words.specs.Settings.{settings_in, frame_in, number_or, kills_or_none, shards_or_none};

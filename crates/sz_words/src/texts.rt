@@ -1,5 +1,5 @@
 //! Texts cut at a byte.
-ghost use Rattle.std.specs.Prelude.{◌≡◌, ◌+◌, [], ◌∷◌, length, nat_eq, MatchOption, IfSome, Some, None};
+ghost use Rattle.std.specs.Prelude.{◌≡◌, ◌+◌, [], ◌∷◌, length, MatchOption, IfSome, Some, None};
 ghost use Rattle.sz_words.specs.Texts.{pieces};
 
 use memchr::memchr;

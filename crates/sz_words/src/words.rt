@@ -1,6 +1,6 @@
 //! The words after a command, as `clap` reads them.
-ghost use Rattle.std.specs.Prelude.{◌≡◌, ◌++◌, ◌∷◌, [], ℕ, List, map, true, string_bytes, IfOk, IfErr, MatchOption};
-ghost use Rattle.std.specs.Prelude.{Some, None, codes};
+ghost use Rattle.std.specs.Prelude.{◌≡◌, ◌∷◌, [], ℕ, map, true, string_bytes, IfOk, IfErr};
+ghost use Rattle.std.specs.Prelude.{Some, None};
 ghost use Rattle.std.specs.Prelude.{option_map, length, false, ◌≢◌};
 ghost use Rattle.clap.specs.Words.{app_of, kind_of, rule_of};
 ghost use Rattle.clap.specs.declared.error.kind.ErrorKind.TheVariants.{OutOfMemory};

@@ -1,5 +1,5 @@
 //! Rounds, run by workers.
-ghost use Rattle.std.specs.Prelude.{◌≡◌, ◌+◌, ◌<◌, ◌≤◌, [], ◌++◌, length, IfOk};
+ghost use Rattle.std.specs.Prelude.{◌≡◌, ◌+◌, ◌<◌, ◌≤◌, [], length, IfOk};
 ghost use denote.Param.Send.{IsSend, IsSync};
 ghost use Rattle.sz_mean.specs.Marked.{all_tables};
 ghost use Rattle.sz_claims.specs.Known.{LedgerData, AreEmpty};

@@ -1,10 +1,9 @@
 //! Laws of the definitions, each a function that does nothing and whose contract is the law.
-ghost use Rattle.std.specs.Prelude.{◌≡◌, ℕ, ◌+◌, List, [], ◌∷◌, Some};
+ghost use Rattle.std.specs.Prelude.{◌≡◌, ℕ, ◌+◌, [], ◌∷◌, Some};
 ghost use Rattle.sz_value.specs.Data.{Datum};
 ghost use Rattle.sz_world_rules.specs.World.{World, spend};
 ghost use Rattle.sz_world_rules.specs.Slots.{Slot};
-ghost use Rattle.sz_world_rules.specs.Stores.{Stored, Holds, stored};
-ghost use Rattle.sz_world_rules.specs.Operations.{with_pairs};
+ghost use Rattle.sz_world_rules.specs.Stores.{Holds, stored};
 
 /// What is left after ticks are taken, and what was taken, is what was left before; and no emit is added or lost.
 pub fn what_is_spent_was_left()

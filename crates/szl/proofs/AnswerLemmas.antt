@@ -1,7 +1,7 @@
 -- How the answer for a command line is put together: from the program's text, the program, and the input.
 use Rattle.std.proofs.Common.{◌≡◌, ◌≢◌, ℕ, zero, suc, ◌+◌, ◌-◌, ◌≤◌, List, [], ◌∷◌, ◌++◌, length, take, drop, Bool, true, false, Option, Some, None}
 use Rattle.std.proofs.Common.{refl, sym, ap, ◌∙◌, subst, arith}
-use Rattle.std.specs.Prelude.{unwrap_or, Result, Ok, Err, slice_get, filter, nat_le, ◌&&◌, if◌then◌else◌}
+use Rattle.std.specs.Prelude.{unwrap_or, Result, Ok, Err, slice_get, nat_le, ◌&&◌, if◌then◌else◌}
 use Rattle.std.proofs.lemmas.List.Elements.{filter_agree}
 use Rattle.sz_types.specs.declared.frame.Frame.{Frame}
 use Rattle.sz_protofile_rules.specs.Types.{TypeShape}

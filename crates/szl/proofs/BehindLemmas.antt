@@ -1,20 +1,17 @@
 -- The answer for settings that may name a `.proto` file, from that where its types are known.
-use Rattle.std.proofs.Common.{◌≡◌, ◌≢◌, ℕ, zero, suc, ◌+◌, ◌-◌, ◌≤◌, ◌⊎◌, inl, inr, List, [], ◌∷◌, ◌++◌, take, Bool, true, false, true≢false}
+use Rattle.std.proofs.Common.{◌≡◌, ◌≢◌, ℕ, zero, suc, ◌+◌, ◌-◌, ◌≤◌, ◌⊎◌, inl, inr, List, [], ◌∷◌, ◌++◌, Bool, true, false, true≢false}
 use Rattle.std.proofs.Common.{Option, Some, None, refl, sym, ap, ◌∙◌, subst, arith, append_assoc}
 use Rattle.std.specs.Prelude.{IfSome, IsSome, IsTrue, unwrap_or, option_to_list, Result, Ok, Err, OnOk}
 use Rattle.std.specs.Io.KnownBytes.{IsAtEnd}
 use Rattle.sz_io.specs.Rose.{Rose}
 use Rattle.sz_io.specs.Opened.{KeepsFiles}
-use Rattle.sz_io.specs.Calls.{OpensOne, ReadToEnd}
+use Rattle.sz_io.specs.Calls.{ReadToEnd}
 use Rattle.sz_io.proofs.ForCallers.{rose_later}
 use Rattle.sz_io.specs.declared.files.Files as files
-use Rattle.sz_words.specs.declared.settings.RunSettings.{RunSettings}
 use Rattle.sz_words.specs.declared.settings.Settings.{Settings}
-use Rattle.sz_words.specs.declared.settings.Settings.TheVariants.{Run, Check}
 use Rattle.sz_words.specs.declared.error.WordsError.{WordsError}
 use Rattle.sz_words.specs.declared.error.WordsError.TheVariants as words_errors
 use Rattle.sz_words.specs.Settings.{settings_in}
-use Rattle.sz_protofile_rules.specs.declared.fault.Fault.{Fault}
 use Rattle.sz_protofile_rules.specs.Types.{TypeShape}
 use Rattle.sz_protofile_laws.specs.Readings.{FileReading, bad_file, with_types}
 use Rattle.szl.specs.declared.status.Status.{Status}
@@ -28,8 +25,8 @@ use Rattle.szl.specs.Outcome.{outcome_with, outcome_behind}
 use Rattle.szl.specs.Judgement.{Reading}
 use Rattle.szl.specs.Judging.{failure_of_words}
 use Rattle.szl.specs.Merging.{Merged, bad}
-use Rattle.szl.specs.Promise.{HasFileEach, OpensFiles, names_behind, AreOfFiles, AreReadToEnd, IfTold}
-use Rattle.szl.specs.ProtoFiles.{IsFileRead, proto_asked, outcome_of_file, behind_file}
+use Rattle.szl.specs.Promise.{OpensFiles, names_behind, AreOfFiles, AreReadToEnd, IfTold}
+use Rattle.szl.specs.ProtoFiles.{IsFileRead, proto_asked, behind_file}
 use Rattle.szl.specs.ProtoReads.{ReadsTypes, GivesTypes}
 use Rattle.szl.specs.Records.{Cut}
 use Rattle.szl.specs.Settings.{frame_asked}

@@ -1,7 +1,7 @@
 -- What a job answers behind the rounds of its journal, and what it leaves of the journal.
-use Rattle.std.proofs.Common.{◌≡◌, ◌≢◌, ◌⊎◌, ℕ, zero, suc, ◌+◌, ◌-◌, ◌*◌, ◌<◌, ◌≤◌, Bool, true, false, List, [], ◌∷◌, ◌++◌, length, take, Option, Some, None}
-use Rattle.std.proofs.Common.{refl, sym, ap, ◌∙◌, subst, arith, inl, inr, ltb, ltb-true, ltb-false, append-nil}
-use Rattle.std.specs.Prelude.{IfSome, OnOk, unwrap_or, replicate, nat_lt, Result, Ok, Err, if◌then◌else◌}
+use Rattle.std.proofs.Common.{◌≡◌, ◌≢◌, ℕ, zero, suc, ◌+◌, ◌-◌, ◌*◌, ◌<◌, ◌≤◌, Bool, true, false, List, [], ◌∷◌, ◌++◌, length, take, Option, Some, None}
+use Rattle.std.proofs.Common.{refl, sym, ap, ◌∙◌, subst, arith, inl, ltb-true, ltb-false, append-nil}
+use Rattle.std.specs.Prelude.{IfSome, unwrap_or, replicate, nat_lt, Result, Ok, Err, if◌then◌else◌}
 use Rattle.std.proofs.lemmas.List.{length-replicate}
 use Rattle.std.proofs.lemmas.List.Sorted.{IsPermutation-refl}
 use Rattle.std.specs.List.Sorted.{IsPermutation}
@@ -9,7 +9,6 @@ use Rattle.sz_types.specs.Tables.{Declaration}
 use Rattle.sz_tabs.specs.Data.{EmitDatum}
 use Rattle.sz_io.specs.Rose.{Rose}
 use Rattle.sz_io.specs.Opened.{names_after}
-use Rattle.sz_io.specs.Calls.{OpensOne}
 use Rattle.sz_io.specs.declared.files.Files as files
 use Rattle.sz_io.specs.declared.error.OutsideError.{OutsideError}
 use Rattle.sz_io.specs.declared.error.OutsideError.TheVariants as outside
@@ -39,20 +38,19 @@ use Rattle.sz_resume.specs.declared.halt.Halt.{Halt}
 use Rattle.sz_resume.specs.declared.halt.Halt.TheVariants as halts
 use Rattle.sz_resume.specs.Standing.{IsFound}
 use Rattle.sz_resume.specs.Runs.{EndsJob, RunsSource, TellsShort}
-use Rattle.szl.specs.declared.status.Status.{Status}
 use Rattle.szl.specs.declared.status.Status.TheVariants as status
 use Rattle.szl.specs.declared.failure.Failure.{Failure}
 use Rattle.szl.specs.declared.failure.Failure.TheVariants as failure
-use Rattle.szl.specs.Answers.{Answer, success, refusal, damaged_line, limit_line, journal_damaged_line}
+use Rattle.szl.specs.Answers.{Answer, success}
 use Rattle.szl.specs.Opening.{Decides, status_of_answer}
-use Rattle.szl.specs.Outcome.{outcome_of_ending, outcome_of_shards, outcome_faulted, outcome_lost}
+use Rattle.szl.specs.Outcome.{outcome_of_ending, outcome_of_shards}
 use Rattle.szl.specs.Promise.{OpensFiles}
 use Rattle.szl.specs.ProgramRuns.{failure_of_opening}
 use Rattle.szl.specs.Records.{Cut, IsCutInto}
 use Rattle.szl.specs.Shards.{shards_in, shard_sizes}
 use Rattle.szl.specs.Resuming.{last_gate, damaged_behind, unless_journal, source_of}
 use Rattle.szl.specs.JournalRuns.{failure_of_halt, as_memory, AnswersJob, IsBehindRounds, but_one}
-use Rattle.szl.proofs.AnswerLemmas.{cut_of, HasRecords, fault_is_numbered, no_usage}
+use Rattle.szl.proofs.AnswerLemmas.{cut_of, fault_is_numbered, no_usage}
 use Rattle.szl.proofs.OpeningLemmas.{holds_or}
 use Rattle.szl.proofs.OpenedLemmas.{opened_one, opened_or_none}
 use Rattle.szl.proofs.ShardLemmas.{sizes_are_shards}

@@ -1,19 +1,18 @@
 -- What a job answers and leaves whose journal is opened: from its statics, its journal, and what is behind that.
-use Rattle.std.proofs.Common.{◌≡◌, ◌≢◌, ◌⊎◌, ℕ, ◌+◌, ◌-◌, ◌^◌, ◌<◌, ◌≤◌, Bool, true, false, List, [], ◌∷◌, ◌++◌, length, take, Option, Some, None, IfSome}
+use Rattle.std.proofs.Common.{◌≡◌, ◌≢◌, ℕ, ◌+◌, ◌-◌, ◌^◌, ◌<◌, ◌≤◌, Bool, true, false, List, [], ◌∷◌, ◌++◌, length, take, Option, Some, None, IfSome}
 use Rattle.std.proofs.Common.{refl, sym, ap, ◌∙◌, subst, arith, inl, inr}
-use Rattle.std.specs.Prelude.{unwrap_or, nat_lt, Result, Ok, Err, if◌then◌else◌}
+use Rattle.std.specs.Prelude.{unwrap_or, Result, Ok, Err, if◌then◌else◌}
 use Rattle.sz_types.specs.Tables.{Declaration}
 use Rattle.sz_io.specs.Rose.{Rose}
 use Rattle.sz_io.specs.declared.files.Files as files
 use Rattle.sz_disk.specs.Crashes.{Images, are_told}
 use Rattle.sz_disk.specs.declared.disk.Disk as disks
-use Rattle.sz_gates.specs.Crashing.{Rests, LeavesOnly}
+use Rattle.sz_gates.specs.Crashing.{LeavesOnly}
 use Rattle.sz_gates.proofs.ForCallers.{leaves_if, leaves_both}
 use Rattle.sz_mean.specs.Marked.{Marked, all_tables}
 use Rattle.sz_mean.specs.Programs.{statics}
 use Rattle.sz_machine.specs.Ends.{seen_fault}
 use Rattle.sz_print.specs.Tables.{tables_text}
-use Rattle.sz_tabs.specs.Data.{EmitDatum}
 use Rattle.sz_world_rules.specs.World.{Outcome, Done, Faulted}
 use Rattle.sz_world_rules.specs.Slots.{Slot}
 use Rattle.sz_attempt.specs.declared.job.Job.{Job}
@@ -34,19 +33,19 @@ use Rattle.sz_journal.specs.declared.error.OpenError.TheVariants as errors
 use Rattle.sz_resume.specs.Standing.{IsFound, StandsFor}
 use Rattle.sz_resume.specs.Standing as by_rounds
 use Rattle.sz_resume.specs.Runs.{IsJournalOf}
-use Rattle.sz_resume.specs.Stops.{AreFirst, AreSmall, IsLeft, LeavesRounds, HoldsAll}
+use Rattle.sz_resume.specs.Stops.{AreFirst, AreSmall, IsLeft}
 use Rattle.szl.specs.declared.status.Status.{Status}
 use Rattle.szl.specs.declared.status.Status.TheVariants as status
 use Rattle.szl.specs.declared.failure.Failure.{Failure}
 use Rattle.szl.specs.declared.failure.Failure.TheVariants as failure
-use Rattle.szl.specs.Answers.{Answer, success, refusal}
+use Rattle.szl.specs.Answers.{Answer, success}
 use Rattle.szl.specs.Opening.{Decides, status_of_answer}
 use Rattle.szl.specs.Outcome.{written, outcome_faulted, outcome_of_shards, outcome_of_statics}
 use Rattle.szl.specs.ProgramRuns.{GivesJob, IsJobOf}
-use Rattle.szl.specs.Records.{Cut, IsCutInto}
+use Rattle.szl.specs.Records.{Cut}
 use Rattle.szl.specs.Shards.{shards_in, shard_sizes, job_of}
 use Rattle.szl.specs.Resuming.{last_gate, damaged_behind, unless_journal, source_of, outcome_behind_statics}
-use Rattle.szl.specs.ResumePromise.{IfKnown, IsBehind, IsByJournal, KeepsJob, KeepsFound}
+use Rattle.szl.specs.ResumePromise.{IfKnown, IsBehind, KeepsJob}
 use Rattle.szl.specs.Promise.{IfRead}
 use Rattle.szl.specs.JournalRuns.{failure_of_journal, as_memory, AnswersJob, IsBehindRounds, IsProgramOutcome, IfBegun, but_one}
 use Rattle.szl.proofs.AnswerLemmas.{cut_of, fault_is_numbered, same_outcome}

@@ -8,9 +8,9 @@ use Rattle.sz_words.specs.declared.settings.RunSettings.{RunSettings}
 use Rattle.sz_words.specs.declared.settings.Settings.{Settings}
 use Rattle.sz_words.specs.declared.settings.Settings.TheVariants.{Run, Check, Selftest, Resume, Merge}
 use Rattle.sz_words.specs.Flags.{plain_words, flags_in}
-use Rattle.sz_words.specs.Parts.{run_names, option_names, values_of, parts_of}
+use Rattle.sz_words.specs.Parts.{option_names, values_of, parts_of}
 use Rattle.sz_words.specs.Texts.{number_in}
-use Rattle.sz_words.specs.Settings.{Values, stand_at_most, value_of, are_files, all_are_files, is_proto_alone, can_be_joined, most_files}
+use Rattle.sz_words.specs.Settings.{Values, stand_at_most, value_of, are_files, all_are_files, is_proto_alone, most_files}
 use Rattle.sz_words.specs.Settings.{run_settings, check_settings, selftest_settings, merge_settings, command_settings, plain_settings, with_flag, with_flags}
 use Rattle.sz_words.specs.Settings.{settings_in}
 

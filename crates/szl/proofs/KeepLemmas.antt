@@ -1,15 +1,13 @@
 -- What calls of a job leave of its journal.
-use Rattle.std.proofs.Common.{◌≡◌, ◌≢◌, ◌⊎◌, ℕ, suc, ◌+◌, ◌<◌, ◌≤◌, ◌^◌, Bool, true, false, true≢false, List, [], ◌∷◌, ◌++◌, length, Option, Some, None, IfSome}
-use Rattle.std.proofs.Common.{refl, sym, ap, ◌∙◌, subst, arith, inl, inr, append-nil}
+use Rattle.std.proofs.Common.{◌≡◌, ◌≢◌, ◌⊎◌, ℕ, suc, ◌+◌, ◌<◌, ◌≤◌, ◌^◌, Bool, true, false, true≢false, List, [], ◌∷◌, ◌++◌, Option, Some, IfSome}
+use Rattle.std.proofs.Common.{refl, sym, ◌∙◌, subst, inl, inr, append-nil}
 use Rattle.std.specs.Prelude.{Ok}
 use Rattle.sz_types.specs.Tables.{Declaration}
-use Rattle.sz_mean.specs.Marked.{Marked, all_tables}
-use Rattle.sz_world_rules.specs.Slots.{Slot}
+use Rattle.sz_mean.specs.Marked.{all_tables}
 use Rattle.sz_attempt.specs.declared.job.Job.{Job}
 use Rattle.sz_attempt.specs.Shards.{ShardData}
-use Rattle.sz_rounds.specs.Outcomes.{outcome_from}
 use Rattle.sz_disk.specs.Calls.{AreAmong}
-use Rattle.sz_disk.specs.Crashes.{Images, MayBe, are_told}
+use Rattle.sz_disk.specs.Crashes.{Images, are_told}
 use Rattle.sz_disk.specs.declared.disk.Disk as disks
 use Rattle.sz_gates.specs.Crashing.{Rests, LeavesOnly}
 use Rattle.sz_gates.specs.Entries.{IsEmpty}
@@ -25,17 +23,16 @@ use Rattle.sz_journal.specs.Journal.{rounds_of, KeepsRounds}
 use Rattle.sz_journal.specs.Opening.{FitsAnswer, IsKept}
 use Rattle.sz_resume.specs.Standing.{Source, IsRoundOf, AreRoundsOf, StandsFor, IsFound}
 use Rattle.sz_resume.specs.Standing as by_rounds
-use Rattle.sz_resume.specs.Stops.{AreFirst, IsLeft, AreSmall, LeavesRounds, SpellsMore, HoldsAll}
+use Rattle.sz_resume.specs.Stops.{IsLeft, AreSmall, LeavesRounds, SpellsMore, HoldsAll}
 use Rattle.sz_words.specs.declared.settings.RunSettings.{RunSettings}
 use Rattle.szl.specs.declared.failure.Failure.{Failure}
 use Rattle.szl.specs.declared.failure.Failure.TheVariants as failure
 use Rattle.szl.specs.Failing.{status_of}
 use Rattle.szl.specs.declared.status.Status.{Status}
 use Rattle.szl.specs.declared.status.Status.TheVariants as status
-use Rattle.szl.specs.ProgramRuns.{IsJobOf}
-use Rattle.szl.specs.ResumePromise.{IsNameFor, KeepsEntries, KeepsJob, LosesNothing, SpellsOn}
+use Rattle.szl.specs.ResumePromise.{IsNameFor, KeepsEntries, KeepsJob, LosesNothing}
 use Rattle.szl.specs.Resuming.{name_of, source_of}
-use Rattle.szl.specs.Shards.{shard_sizes, job_of}
+use Rattle.szl.specs.Shards.{shard_sizes}
 use Rattle.szl.proofs.AnswerLemmas.{cut_of, same_outcome}
 use Rattle.szl.proofs.ShardLemmas.{sizes_are_shards}
 

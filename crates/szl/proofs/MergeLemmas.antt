@@ -14,10 +14,9 @@ use Rattle.sz_merge.specs.Files.{Follows}
 use Rattle.szl.specs.declared.status.Status.TheVariants as status
 use Rattle.szl.specs.declared.failure.Failure.{Failure}
 use Rattle.szl.specs.declared.failure.Failure.TheVariants as failure
-use Rattle.szl.specs.Answers.{Answer, Says}
 use Rattle.szl.specs.Failing.{status_of}
 use Rattle.szl.specs.Merging as ends
-use Rattle.szl.specs.Merging.{Merged, EndsAt, MergesFrom, AreHeld, outcome_of_merge, merged_output, most_saved_bytes}
+use Rattle.szl.specs.Merging.{Merged, EndsAt, MergesFrom, AreHeld, outcome_of_merge, most_saved_bytes}
 use Rattle.szl.specs.MergeAnswers.{IsOfFile, StandFor, AddsFile, AnswersFrom, AnswersMerge, IsOutputOf, lacks_memory}
 use Rattle.szl.specs.Opening.{Decides, status_of_answer}
 use Rattle.szl.specs.ProgramRuns.{vec_items_of}

@@ -1,6 +1,6 @@
 -- The types of a `.proto` file have their bytes in a saved file, but for their height.
-use Rattle.std.proofs.Common.{◌≡◌, ℕ, zero, suc, ◌+◌, ◌<◌, ◌≤◌, ◌^◌, Bool, true, false, ◌&&◌, nat_eq, nat_le, List, [], ◌∷◌, length, map, get_or}
-use Rattle.std.proofs.Common.{refl, sym, ap, subst, arith}
+use Rattle.std.proofs.Common.{◌≡◌, ℕ, zero, suc, ◌+◌, ◌<◌, ◌≤◌, ◌^◌, true, false, ◌&&◌, nat_eq, nat_le, List, [], ◌∷◌, length, map, get_or}
+use Rattle.std.proofs.Common.{refl, subst, arith}
 use Rattle.std.specs.List.{Contains, sum, fold}
 use Rattle.std.proofs.lemmas.Bool.{and_parts, eqb-true, leb-true}
 use Rattle.sz_types.specs.Data as data_of
@@ -11,7 +11,7 @@ use Rattle.sz_core.specs.WellFormed.{names_of, numbers_of, are_distinct_texts, a
 use Rattle.sz_core.specs.WellFormed.{is_well_formed, are_parts, are_message_fields}
 use Rattle.sz_save_format.specs.Names.{HasName}
 use Rattle.sz_save_format.specs.Types as saved
-use Rattle.sz_save_format.specs.Types.{HasTypeBytes, HaveFieldBytes, HasNumber}
+use Rattle.sz_save_format.specs.Types.{HasTypeBytes, HaveFieldBytes}
 use Rattle.sz_protofile_rules.specs.declared.scope.Scope.{Scope}
 use Rattle.sz_protofile_rules.specs.Names.{spelled, unreserved, messages_in}
 use Rattle.sz_protofile_rules.specs.Types.{TypeShape, field_count, field_counts, most_fields, HasTypes}

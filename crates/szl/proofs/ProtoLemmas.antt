@@ -1,6 +1,6 @@
 -- What the `.proto` file of a command line is read as, and what reading it tells.
-use Rattle.std.proofs.Common.{◌≡◌, inr, ℕ, ◌<◌, ◌≤◌, Bool, true, false, nat_lt, List, [], ◌∷◌, ◌++◌, length, Option, Some, None, Result, Ok, Err}
-use Rattle.std.proofs.Common.{refl, sym, ap, subst, arith}
+use Rattle.std.proofs.Common.{◌≡◌, inr, ℕ, ◌<◌, ◌≤◌, Bool, true, false, nat_lt, List, [], ◌∷◌, ◌++◌, length, Option, Result, Ok, Err}
+use Rattle.std.proofs.Common.{refl, sym, subst, arith}
 use Rattle.std.specs.Prelude.{IfSome}
 use Rattle.std.proofs.lemmas.Bool.Decides.{nat_tests}
 use Rattle.sz_types.specs.Data as data_of
@@ -16,13 +16,13 @@ use Rattle.sz_protofile_rules.specs.Faults.{first_fault}
 use Rattle.sz_protofile_rules.specs.Types.{TypeShape, HasTypes, IsRefused}
 use Rattle.sz_protofile_names.specs.declared.error.ProtoError.TheVariants as proto_errors
 use Rattle.sz_protofile_names.specs.Outcome.{OrNoMemory}
-use Rattle.sz_protofile_laws.specs.Readings.{FileReading, bad_file, with_types, IsReading}
+use Rattle.sz_protofile_laws.specs.Readings.{FileReading, bad_file, with_types}
 use Rattle.sz_protofile_laws.proofs.ReadingLaws.{one_reading}
 use Rattle.sz_protofile_laws.proofs.ReadingLaws as laws
 use Rattle.szl.specs.declared.failure.Failure.{Failure}
 use Rattle.szl.specs.declared.failure.Failure.TheVariants as failure
 use Rattle.szl.specs.Failing.{status_of}
-use Rattle.szl.specs.Opening.{ReadsText, ran_out, status_of_answer}
+use Rattle.szl.specs.Opening.{ReadsText, ran_out}
 use Rattle.szl.specs.Promise.{IfRead}
 use Rattle.szl.specs.ProtoFiles.{most_file_bytes, file_too_long, IsFileRead, long, short, HasFileReading}
 use Rattle.szl.specs.ProtoReads.{past_file, TellsTypes, ReadsTypes}

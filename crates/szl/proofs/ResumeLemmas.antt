@@ -1,6 +1,6 @@
 -- The answer of a job that is resumed: from its program, its program's text, its program's file, and its file of types.
-use Rattle.std.proofs.Common.{◌≡◌, ◌≢◌, ◌⊎◌, ℕ, suc, ◌-◌, ◌<◌, ◌≤◌, List, [], ◌∷◌, ◌++◌, length, take, Option, Some, None, IfSome}
-use Rattle.std.proofs.Common.{refl, sym, ap, ◌∙◌, subst, arith, inl, inr}
+use Rattle.std.proofs.Common.{◌≡◌, ◌≢◌, ℕ, suc, ◌-◌, List, [], ◌∷◌, ◌++◌, length, take, Option, Some, None, IfSome}
+use Rattle.std.proofs.Common.{refl, sym, ap, ◌∙◌, subst, arith}
 use Rattle.std.specs.Prelude.{unwrap_or, option_to_list, nat_lt, Result, Ok, Err, if◌then◌else◌, Bool, true, false}
 use Rattle.sz_io.specs.Rose.{Rose}
 use Rattle.sz_io.specs.Opened.{KeepsFiles}
@@ -9,9 +9,8 @@ use Rattle.sz_io.proofs.ForCallers.{rose_later}
 use Rattle.sz_io.specs.declared.files.Files as files
 use Rattle.sz_disk.specs.Calls.{AreAmong}
 use Rattle.sz_disk.specs.declared.disk.Disk as disks
-use Rattle.sz_gates.specs.Crashing.{Rests}
 use Rattle.sz_tree.specs.Statements.{Stms}
-use Rattle.sz_mean.specs.Marked.{Marked, all_tables}
+use Rattle.sz_mean.specs.Marked.{Marked}
 use Rattle.sz_mean.specs.Programs.{statics}
 use Rattle.sz_world_rules.specs.World.{Outcome, Done, Faulted}
 use Rattle.sz_world_rules.specs.Slots.{Slot}
@@ -21,11 +20,8 @@ use Rattle.sz_records.specs.declared.ending.Ending.{Ending}
 use Rattle.sz_rounds.specs.Outcomes.{ShardsEnd}
 use Rattle.sz_words.specs.declared.settings.RunSettings.{RunSettings}
 use Rattle.sz_journal_format.specs.declared.job.JobBytes.{JobBytes}
-use Rattle.sz_journal_format.specs.declared.round.RoundEntry.{RoundEntry}
 use Rattle.sz_journal_format.specs.Rounds.{last_progress}
 use Rattle.sz_journal_rules.specs.Journals.{Standing, Empty, OtherJob, DamagedAt, Spelled}
-use Rattle.sz_journal_rules.specs.Journals as stand
-use Rattle.sz_resume.specs.Standing.{IsFound}
 use Rattle.szl.specs.declared.status.Status.{Status}
 use Rattle.szl.specs.declared.status.Status.TheVariants as status
 use Rattle.szl.specs.declared.failure.Failure.{Failure}
@@ -38,13 +34,13 @@ use Rattle.szl.specs.Judging.{IsFailureOf, IsFailureOn}
 use Rattle.szl.specs.Opening.{Decides, ReadsText, ran_out, past_program, status_of_answer}
 use Rattle.szl.specs.Outcome.{outcome_of_shards, outcome_refused}
 use Rattle.szl.specs.Promise.{IfRead, OpensFiles}
-use Rattle.szl.specs.ProtoFiles.{IsFileRead, IsOfFile, outcome_of_file, behind_file, outcome_bad_file}
+use Rattle.szl.specs.ProtoFiles.{IsFileRead, IsOfFile, outcome_of_file, behind_file}
 use Rattle.szl.specs.ProtoReads.{ReadsTypes, GivesTypes}
 use Rattle.szl.specs.Records.{Cut}
 use Rattle.szl.specs.Savable.{savable}
 use Rattle.szl.specs.Shards.{job_of}
 use Rattle.szl.specs.Resuming.{name_of, source_of, last_gate, damaged_behind, unless_journal, outcome_behind_statics, outcome_behind_checked, outcome_behind_read, outcome_of_resume}
-use Rattle.szl.specs.ResumePromise.{IfSpelled, IfRun, IfKnown, IsBehind, IsByJournal, IsJobOutcome, IsToldFile, IsNameFor, KeepsJob, KeepsDisk, KeepsEntries, KeepsFound, KeepsJournal}
+use Rattle.szl.specs.ResumePromise.{IfSpelled, IfRun, IfKnown, IsBehind, IsJobOutcome, IsToldFile, IsNameFor, KeepsDisk, KeepsEntries, KeepsJournal}
 use Rattle.szl.specs.JournalRuns.{as_memory, AnswersJob, IsProgramOutcome, IsTextOutcome, IsFileOutcome, IfBegun, but_one}
 use Rattle.szl.proofs.JudgementLemmas.{one_reading, every_text_is_read}
 use Rattle.szl.proofs.AnswerLemmas.{cut_of, no_usage}

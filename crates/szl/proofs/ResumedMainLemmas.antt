@@ -1,7 +1,6 @@
 -- The promise of the top call for a job that is resumed, from the answer, what was printed of it, and the line.
-use Rattle.std.proofs.Common.{◌≡◌, ◌≢◌, ◌⊎◌, inl, inr, ℕ, List, [], ◌∷◌, ◌++◌, length, Option, Some, None, refl, sym, ap, ◌∙◌, subst, arith}
-use Rattle.std.specs.Prelude.{Result, Ok, Err, OnOk, IfOk, option_to_list}
-use Rattle.std.specs.Io.KnownBytes.{Appends}
+use Rattle.std.proofs.Common.{◌≡◌, ◌≢◌, ◌⊎◌, inl, inr, ℕ, List, [], ◌∷◌, ◌++◌, Option, Some, None, refl, sym, ap, ◌∙◌, subst, arith}
+use Rattle.std.specs.Prelude.{Result, Ok, Err, option_to_list}
 use Rattle.std.proofs.KnownBytes.{Appends-nil}
 use Rattle.sz_io.specs.Rose.{Rose}
 use Rattle.sz_io.specs.declared.files.Files as files
@@ -14,7 +13,7 @@ use Rattle.szl.specs.declared.status.Status.{Status}
 use Rattle.szl.specs.declared.status.Status.TheVariants as status
 use Rattle.szl.specs.declared.failure.Failure.{Failure}
 use Rattle.szl.specs.declared.failure.Failure.TheVariants as failure
-use Rattle.szl.specs.Answers.{Answer, Says, success}
+use Rattle.szl.specs.Answers.{Answer}
 use Rattle.szl.specs.Failing.{status_of, line_of_failure}
 use Rattle.szl.specs.Opening.{Decides, Answers, status_of_answer}
 use Rattle.szl.specs.Printing.{Prints, PrintsNothing}
@@ -24,9 +23,9 @@ use Rattle.sz_words.specs.declared.error.WordsError.TheVariants as words_errors
 use Rattle.sz_words.specs.Settings.{settings_in}
 use Rattle.szl.proofs.BehindLemmas.{words_fail}
 use Rattle.szl.proofs.ResumeLemmas.{nothing_answered}
-use Rattle.szl.specs.Promise.{names_asked, IsStatusOf, AppendsPrefix, GainsOutput, IsLeftAlone, GainsLine, OpensFiles, line_of}
-use Rattle.szl.specs.ResumePromise.{ByCommand, IfKnown, IsJobOutcome, IsStatusOnDisk, MeansJob, CompletesJob, KeepsJob, KeepsDisk, KeepsJournal, IfRun}
-use Rattle.szl.specs.ResumePromise.{free_status, line_on_disk, names_on_disk, IsByJournal}
+use Rattle.szl.specs.Promise.{names_asked, IsStatusOf, GainsOutput, IsLeftAlone, GainsLine, OpensFiles, line_of}
+use Rattle.szl.specs.ResumePromise.{ByCommand, IfKnown, IsJobOutcome, IsStatusOnDisk, MeansJob, CompletesJob, KeepsJob, KeepsJournal, IfRun}
+use Rattle.szl.specs.ResumePromise.{free_status, line_on_disk, names_on_disk}
 use Rattle.szl.specs.JournalRuns.{as_memory, AnswersJob}
 use Rattle.szl.specs.Judgement.{Reading, refused, spells}
 use Rattle.szl.specs.Resuming.{name_of, source_of}
@@ -34,8 +33,8 @@ use Rattle.szl.specs.Shards.{job_of}
 use Rattle.sz_protofile_laws.specs.Readings.{FileReading, bad_file, with_types}
 use Rattle.sz_journal_format.specs.declared.round.RoundEntry.{RoundEntry}
 use Rattle.sz_resume.specs.Standing.{IsFound}
-use Rattle.szl.proofs.OpenedLemmas.{opened_no_memory, opened_unwritten}
-use Rattle.szl.proofs.MainLemmas.{Fits, Ended, ended, before, unwritten, no_room, fits_done, fits_failure, line_is, fits_no_memory, alone_printed}
+use Rattle.szl.proofs.OpenedLemmas.{opened_no_memory}
+use Rattle.szl.proofs.MainLemmas.{Ended, ended, before, unwritten, no_room, fits_done, fits_failure, line_is, fits_no_memory, alone_printed}
 use Rattle.szl.proofs.MainLemmas.{alone_failure, alone_no_memory, opened_failure}
 
 module _ {F K : Type 0} (the_files : files.Ghosts F) (the_disk : disks.Ghosts K) (s : RunSettings) (old : F) (disk : K) where

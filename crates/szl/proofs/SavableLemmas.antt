@@ -1,5 +1,5 @@
 -- Programs whose tables can be saved.
-use Rattle.std.proofs.Common.{◌≡◌, List, [], ◌∷◌, length, ◌<◌, ◌≤◌, ◌^◌, ℕ, Bool, true, false, Option, Some, None, refl, sym, ap, ◌∙◌, subst, arith}
+use Rattle.std.proofs.Common.{◌≡◌, List, [], ◌∷◌, ℕ, Bool, true, false, Some, None, refl, sym, ap, ◌∙◌, subst, arith}
 use Rattle.std.specs.Prelude.{Result, Ok, Err, if◌then◌else◌}
 use Rattle.sz_types.specs.Tables.{Declaration}
 use Rattle.sz_tree.specs.Statements.{Stms}
@@ -20,7 +20,6 @@ use Rattle.szl.specs.Judgement.{IsShort, HasStatements}
 use Rattle.szl.specs.Judging.{IsFailureOn}
 use Rattle.szl.specs.Reserved.{unless_reserved, runnable_so, runnable, declared_in, reserved_name}
 use Rattle.szl.specs.Savable.{first_high, unless_high, savable_so, savable}
-use Rattle.szl.specs.ProgramRuns.{CanSave}
 use Rattle.szl.specs.ProtoReads.{HaveTypeBytes}
 
 -- where no table is the first that has too many levels, all tables have few

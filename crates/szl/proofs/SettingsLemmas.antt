@@ -1,10 +1,8 @@
 -- The answer for the settings of a command line, from that for the program's text.
-use Rattle.std.proofs.Common.{◌≡◌, ◌≢◌, ℕ, zero, suc, ◌<◌, ◌≤◌, ◌⊎◌, List, [], ◌∷◌, ◌++◌, length, take, Bool}
+use Rattle.std.proofs.Common.{◌≡◌, ◌≢◌, ℕ, zero, suc, ◌<◌, ◌≤◌, ◌⊎◌, List, [], ◌∷◌, ◌++◌, length, take}
 use Rattle.std.proofs.Common.{Option, Some, None, refl, sym, ap, ◌∙◌, subst, arith, inl, inr, append_assoc}
 use Rattle.std.specs.Prelude.{IfSome, IsSome, IsTrue, unwrap_or, Result, Ok, Err, OnOk}
 use Rattle.std.specs.Io.KnownBytes.{IsAtEnd}
-use Rattle.sz_feed.specs.Feed.{file_of}
-use Rattle.sz_feed.specs.Program.{program_text}
 use Rattle.sz_io.specs.Rose.{Rose}
 use Rattle.sz_protofile_rules.specs.Types.{TypeShape}
 use Rattle.sz_io.specs.Opened.{KeepsFiles}
@@ -23,10 +21,7 @@ use Rattle.sz_records.specs.declared.ending.Ending.{Ending}
 use Rattle.sz_records.specs.declared.ending.Ending.TheVariants.{Whole, Damaged, Limit}
 use Rattle.sz_words.specs.declared.settings.RunSettings.{RunSettings}
 use Rattle.sz_words.specs.declared.settings.Settings.{Settings}
-use Rattle.sz_words.specs.declared.settings.Settings.TheVariants.{Run, Check, Selftest, Resume, Merge}
-use Rattle.sz_words.specs.declared.error.WordsError.{WordsError}
-use Rattle.sz_words.specs.declared.error.WordsError.TheVariants as words_errors
-use Rattle.sz_words.specs.Settings.{settings_in}
+use Rattle.sz_words.specs.declared.settings.Settings.TheVariants.{Run, Check, Resume}
 use Rattle.szl.specs.declared.status.Status.{Status}
 use Rattle.szl.specs.declared.status.Status.TheVariants as status
 use Rattle.szl.specs.declared.failure.Failure.{Failure}
@@ -40,8 +35,8 @@ use Rattle.szl.specs.declared.refusal.Refusal.{Refusal}
 use Rattle.szl.specs.Checking.{checked}
 use Rattle.szl.specs.Judgement.{Reading, spells, most_program_bytes}
 use Rattle.szl.specs.Judgement as readings
-use Rattle.szl.specs.Judging.{IsFailureOf, failure_of_words}
-use Rattle.szl.specs.Merging.{Merged, bad, outcome_of_merge}
+use Rattle.szl.specs.Judging.{IsFailureOf}
+use Rattle.szl.specs.Merging.{Merged, bad}
 use Rattle.szl.specs.Promise.{IfRead, OpensFiles, names_behind, AreOfFiles, IsMergedFor, AreReadToEnd}
 use Rattle.szl.specs.Records.{Cut}
 use Rattle.szl.specs.Shards.{shards_in, job_of}

@@ -1,11 +1,10 @@
 -- The answer where memory ran out before a file was opened, and that to files that are joined.
-use Rattle.std.proofs.Common.{◌≡◌, ◌≢◌, ℕ, ◌≤◌, List, [], length, Bool, Option, Some, None, refl, sym, ap, subst, arith}
+use Rattle.std.proofs.Common.{ℕ, ◌≤◌, List, [], length, Bool, Option, Some, None, refl, arith}
 use Rattle.std.specs.Prelude.{IfSome, unwrap_or, Result, Err}
 use Rattle.sz_feed.specs.Feed.{file_of}
 use Rattle.sz_feed.specs.Program.{program_text}
 use Rattle.sz_io.specs.declared.files.Files as files
 use Rattle.sz_protofile_rules.specs.Types.{TypeShape}
-use Rattle.sz_words.specs.declared.settings.RunSettings.{RunSettings}
 use Rattle.sz_words.specs.declared.settings.Settings.{Settings}
 use Rattle.sz_words.specs.declared.settings.Settings.TheVariants.{Run, Check, Selftest, Resume, Merge}
 use Rattle.szl.specs.declared.status.Status.TheVariants as status

@@ -1,5 +1,5 @@
 -- What the functions of a job that is resumed promise each other.
-use Rattle.std.specs.Prelude.{◌≡◌, ◌≢◌, ℕ, ◌-◌, ◌⊎◌, ⊤, List, [], ◌∷◌, length, Option, Some, IfSome, Result, Ok, Err}
+use Rattle.std.specs.Prelude.{◌≡◌, ℕ, ◌-◌, List, length, Option, Some, IfSome, Result, Err}
 use Rattle.sz_io.specs.Rose.{Rose}
 use Rattle.sz_io.specs.declared.files.Files as files
 use Rattle.sz_journal.specs.declared.error.OpenError.{OpenError}

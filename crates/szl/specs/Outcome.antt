@@ -1,5 +1,5 @@
 -- The outcome of a command line: what the source means for the shards of the records, in input order.
-use Rattle.std.specs.Prelude.{ℕ, zero, suc, ◌*◌, List, [], ◌∷◌, ◌++◌, length, Bool, Option, Some, None, Result, Ok, Err, codes, if◌then◌else◌}
+use Rattle.std.specs.Prelude.{ℕ, zero, suc, ◌*◌, List, [], ◌∷◌, ◌++◌, length, Bool, Option, Some, Result, Ok, Err, codes, if◌then◌else◌}
 use Rattle.sz_core.specs.Programs.{Core}
 use Rattle.sz_world_rules.specs.World.{Fault, Done, Faulted}
 use Rattle.sz_world_rules.specs.World as world

@@ -1,5 +1,5 @@
 -- The outcome of a job that is resumed: what its journal is decides before its records do, and else it is the outcome of the run.
-use Rattle.std.specs.Prelude.{◌≡◌, ℕ, ◌-◌, nat_lt, true, List, length, map, take, Result, Ok, Err, if◌then◌else◌}
+use Rattle.std.specs.Prelude.{ℕ, ◌-◌, nat_lt, true, List, length, map, take, Result, Ok, Err, if◌then◌else◌}
 use Rattle.sz_world_rules.specs.World.{Done, Faulted}
 use Rattle.sz_world_rules.specs.World as world
 use Rattle.sz_world_rules.specs.Slots.{Slot}

@@ -1,5 +1,5 @@
 //! A job that is resumed: its rounds are kept in a journal, and it goes on behind the last one.
-ghost use Rattle.std.specs.Prelude.{◌≡◌, ◌<◌, ◌≤◌, ◌^◌, ◌++◌, ◌∷◌, [], ℕ, List, length, map, string_bytes, Option, Some, true, false, IfOk, OnOk, IsErrOf};
+ghost use Rattle.std.specs.Prelude.{◌≡◌, ◌<◌, ◌≤◌, ◌^◌, ◌++◌, ◌∷◌, [], ℕ, List, length, map, string_bytes, Some, true, false, IfOk, OnOk, IsErrOf};
 ghost use Rattle.sz_io.specs.Rose.{Rose};
 ghost use Rattle.sz_io.specs.Opened.{KeepsFiles};
 ghost use Rattle.sz_io.specs.Calls.{ReadToEnd};
@@ -18,7 +18,7 @@ ghost use Rattle.sz_protofile_laws.specs.Sound.{AreSound};
 ghost use Rattle.sz_resume.specs.Standing.{IsFound};
 ghost use Rattle.sz_resume.specs.Runs.{IsJournalOf, HasJournal};
 ghost use Rattle.sz_resume.specs.Stops.{SpellsMore};
-ghost use Rattle.sz_words.specs.Bounds.{HasBounds, IsBounded};
+ghost use Rattle.sz_words.specs.Bounds.{HasBounds};
 ghost use Rattle.sz_words.specs.Settings.{settings_in};
 ghost use Rattle.sz_words.specs.declared.settings.Settings.TheVariants.{Resume};
 ghost use Rattle.szl.specs.Judgement.{Reading, IsRead, most_program_bytes};

@@ -1,5 +1,5 @@
 //! Laws of the definitions, each a function that does nothing and whose contract is the law.
-ghost use Rattle.std.specs.Prelude.{◌≡◌, ◌-◌, ◌/◌, ◌<◌, ◌≤◌, ℕ, List, length};
+ghost use Rattle.std.specs.Prelude.{◌-◌, ◌/◌, ◌≤◌, ℕ, List, length};
 ghost use Rattle.sz_types.specs.declared.frame.Frame.TheVariants.{Delimited};
 ghost use Rattle.sz_records.specs.declared.ending.Ending.TheVariants.{Whole};
 ghost use Rattle.sz_records.specs.Cutting.{IsCut};

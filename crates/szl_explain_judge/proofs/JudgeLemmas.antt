@@ -17,7 +17,7 @@ use Rattle.sz_check_rules.specs.Causes.{number_of, IsNumber}
 use Rattle.sz_check_rules.specs.Refusals.{Judged}
 use Rattle.sz_check.specs.declared.error.CheckError.TheVariants as checking
 use Rattle.sz_check.specs.Answering.{Answers}
-use Rattle.szl_explain_judge.specs.Refusing.{IsShort, HasStatements, IsProgram, IsJudged, checked, judged_so, stop_of_lexing, stop_of_parsing, IsUnreadStop, IsStopOf, IsStopOn}
+use Rattle.szl_explain_judge.specs.Refusing.{IsShort, HasStatements, IsProgram, checked, judged_so, stop_of_lexing, stop_of_parsing, IsUnreadStop, IsStopOf, IsStopOn}
 use Rattle.szl_explain_judge.specs.declared.stop.Stop.{Stop}
 use Rattle.szl_explain_judge.specs.declared.stop.Stop.TheVariants as stops
 

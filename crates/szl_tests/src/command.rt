@@ -1,5 +1,5 @@
 //! A command line over files and sinks in memory, and what it leaves.
-ghost use Rattle.std.specs.Prelude.{◌≡◌, ◌≤◌, [], IfOk};
+ghost use Rattle.std.specs.Prelude.{◌≡◌, [], IfOk};
 ghost use Rattle.sz_io.specs.MemFiles.{names_opened};
 
 use std::alloc::Global;

@@ -1,5 +1,5 @@
 -- One pair more is put in after the others.
-use Rattle.std.proofs.Common.{rules, ◌≡◌, ◌∙◌, [], take, ap}
+use Rattle.std.proofs.Common.{rules, ◌≡◌, ◌∙◌, [], take}
 use Rattle.sz_value.specs.Maps.{with_pair, with_pairs}
 use Rattle.sz_builtin.specs.Views.{seen_view}
 use Rattle.sz_machine_cells.specs.PairViews.{seen_pair_views}

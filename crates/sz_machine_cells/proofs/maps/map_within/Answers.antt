@@ -1,11 +1,10 @@
 -- Of the pairs, sorted by their keys, those that are kept are the map.
-use Rattle.std.proofs.Common.{rules, arith, ◌≡◌, ◌∙◌, ◌<◌, ◌≤◌, nat_le, [], true, false, Some, None, is_some, sym, ap, subst}
+use Rattle.std.proofs.Common.{rules, arith, ◌≡◌, ◌∙◌, ◌<◌, ◌≤◌, nat_le, [], true, false, Some, is_some, sym, ap, subst}
 use Rattle.std.proofs.lemmas.Bool.{leb-true, leb-false}
 use Rattle.std.specs.List.{list_all}
 use Rattle.sz_value.specs.Data.{mapping, entries_of}
 use Rattle.sz_value.specs.Maps.{with_pairs}
 use Rattle.sz_value.specs.Weight.{weight_of}
-use Rattle.sz_world_rules.specs.Operations.{map_of}
 use Rattle.sz_world_rules.specs.Ticks.{result_weight}
 use Rattle.sz_machine_cells.specs.PairViews.{seen_pair_views, last_ones}
 use Rattle.sz_machine_cells.proofs.PairLemmas.{no_map, map_is, copies_are}

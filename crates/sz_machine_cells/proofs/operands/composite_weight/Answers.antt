@@ -1,5 +1,5 @@
 -- A composite weighs one more than its parts, and stays at the greatest number.
-use Rattle.std.proofs.Common.{rules, arith, ◌≡◌, ◌∙◌, ◌<◌, ◌+◌, ◌-◌, ◌^◌, true, false, is_some, sym, ap}
+use Rattle.std.proofs.Common.{rules, arith, ◌≡◌, ◌<◌, ◌-◌, ◌^◌, true, false, is_some, sym, ap}
 use Rattle.std.specs.List.{list_all}
 use Rattle.sz_machine_cells.specs.Results.{composite_weight}
 use Rattle.sz_machine_cells.proofs.ListLemmas.{are_not_all}

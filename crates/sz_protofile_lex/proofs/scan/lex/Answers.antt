@@ -1,4 +1,4 @@
-use Rattle.std.proofs.Common.{◌≡◌, ◌-◌, ap, ◌∙◌, arith}
+use Rattle.std.proofs.Common.{◌≡◌, ap, ◌∙◌, arith}
 use Rattle.sz_lex.proofs.Turns.{lines_below, columns_below}
 use Rattle.sz_protofile_lex.specs.Tokens.{item}
 use Rattle.sz_protofile_lex.proofs.Turns.{passes, gap_passes, token_passes, bad_fails, all_passed, start_front, part_is}

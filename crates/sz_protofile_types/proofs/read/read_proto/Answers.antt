@@ -1,10 +1,10 @@
-use Rattle.std.proofs.Common.{◌≡◌, List, Option, Some, None, sym, subst}
+use Rattle.std.proofs.Common.{List, Option, Some, None, subst}
 use Rattle.std.proofs.lemmas.Result.{err_from_is_err_and}
 use Rattle.sz_protofile.specs.declared.line.Line.{Line}
 use Rattle.sz_protofile_rules.specs.Names.{spelled}
 use Rattle.sz_protofile_rules.specs.Types.{TypeShape}
 use Rattle.sz_protofile_types.specs.Making.{AreFound}
-use Rattle.sz_protofile_types.proofs.ReadLemmas.{still_refused, has_types, only_types, not_refused, not_found, is_large, only_large}
+use Rattle.sz_protofile_types.proofs.ReadLemmas.{still_refused, has_types, only_types, not_refused, not_found, is_large}
 use Rattle.sz_protofile_types.proofs.read.read_proto.Goals as goal
 
 pub returns-in_err-lines-clause-refused : goal.returns-in_err-lines-clause-refused

@@ -1,4 +1,4 @@
-use Rattle.std.proofs.Common.{List, sym, subst}
+use Rattle.std.proofs.Common.{List, subst}
 use Rattle.std.proofs.lemmas.Result.{IfOk-weaker}
 use Rattle.sz_protofile_rules.specs.declared.field.FieldIn.{FieldIn}
 use Rattle.sz_protofile_loops.specs.Ranks.{IsRanking}

@@ -1,5 +1,5 @@
 -- What is joined can be saved, and is what both hold together.
-use Rattle.std.proofs.Common.{◌∙◌, ◌+◌, sym, subst}
+use Rattle.std.proofs.Common.{◌+◌, sym, subst}
 use Rattle.sz_save.specs.Joined.{Joins}
 use Rattle.sz_save.proofs.JoinLemmas.{tables_ask, states_saved, states_join}
 use Rattle.sz_save.proofs.joining.join_owned.Goals as goal

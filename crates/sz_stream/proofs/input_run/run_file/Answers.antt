@@ -1,5 +1,5 @@
 use Rattle.std.proofs.Common.{IsTrue, rules, sym, ◌∙◌, subst, arith}
-use Rattle.std.specs.Prelude.{OnOk, ◌-◌}
+use Rattle.std.specs.Prelude.{OnOk}
 use Rattle.std.specs.Io.KnownBytes.{IsAtEnd}
 use Rattle.std.proofs.lemmas.Result.{err_from_is_err_and}
 use Rattle.sz_total.specs.States.{declarations, emit_count, shown}

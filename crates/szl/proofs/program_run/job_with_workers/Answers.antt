@@ -2,7 +2,7 @@ use Rattle.std.proofs.Common.{sym, ap, subst}
 use Rattle.std.proofs.lemmas.Result.{err_from_is_err_and}
 use Rattle.std.specs.Prelude.{Ok, Err, ◌≤◌}
 use Rattle.sz_core.specs.Sound.{IsSound}
-use Rattle.sz_mean.specs.Marked.{Marked, marked}
+use Rattle.sz_mean.specs.Marked.{Marked}
 use Rattle.sz_attempt.specs.declared.job.Job.{Job}
 use Rattle.szl.specs.ProgramRuns.{GivesStatics, IsJobOf}
 use Rattle.szl.proofs.AnswerLemmas.{is_job}

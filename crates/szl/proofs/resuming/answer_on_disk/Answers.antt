@@ -1,17 +1,15 @@
 -- A job that is resumed is answered over its disk, and other commands without it.
-use Rattle.std.proofs.Common.{◌≡◌, ◌<◌, ◌≤◌, ◌∙◌, Some, Option, List, ℕ, length, refl, sym, ap, subst, map, arith}
+use Rattle.std.proofs.Common.{◌≡◌, ◌≤◌, ◌∙◌, Some, Option, ℕ, length, sym, ap, subst, map, arith}
 use Rattle.std.proofs.lemmas.Result.{err_from_is_err_and}
-use Rattle.std.specs.Prelude.{string_bytes, Err, IfOk, OnOk}
+use Rattle.std.specs.Prelude.{string_bytes, IfOk, OnOk}
 use Rattle.sz_words.specs.Bounds.{IsBounded}
 use Rattle.sz_words.specs.Settings.{settings_in}
-use Rattle.sz_words.specs.declared.settings.RunSettings.{RunSettings}
 use Rattle.sz_words.specs.declared.settings.Settings.{Settings}
-use Rattle.sz_words.specs.declared.settings.Settings.TheVariants.{Resume}
 use Rattle.szl.specs.Failing.{status_of}
 use Rattle.szl.specs.Judging.{failure_of_words}
-use Rattle.szl.specs.Opening.{Answers, status_of_answer}
+use Rattle.szl.specs.Opening.{status_of_answer}
 use Rattle.szl.specs.ProgramRuns.{vec_items_of}
-use Rattle.szl.specs.Promise.{AreReadToEnd, names_asked, most_before}
+use Rattle.szl.specs.Promise.{AreReadToEnd, most_before}
 use Rattle.szl.specs.Saving.{HasSaved, IfSaving}
 use Rattle.szl.specs.ResumePromise.{ByCommand, KeepsJournal, names_on_disk}
 use Rattle.szl.proofs.ResumeLemmas.{nothing_left}

@@ -1,6 +1,5 @@
 -- The file of types is read, and the program's file is answered.
-use Rattle.std.proofs.Common.{◌∷◌, [], sym, ap, ◌∙◌, subst}
-use Rattle.std.specs.Prelude.{Err, Ok}
+use Rattle.std.proofs.Common.{◌∷◌, []}
 use Rattle.std.proofs.lemmas.Result.{err_from_is_err_and}
 use Rattle.szl.specs.Failing.{status_of}
 use Rattle.szl.specs.Opening.{status_of_answer}

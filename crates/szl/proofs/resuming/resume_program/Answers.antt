@@ -1,6 +1,6 @@
 -- The job is made, its journal is opened, and it goes on behind that.
-use Rattle.std.proofs.Common.{◌≡◌, [], ◌∷◌, refl, sym, ap, ◌∙◌, subst, Some, None, Option, List, ℕ, IfSome}
-use Rattle.std.specs.Prelude.{Err, Ok, Result}
+use Rattle.std.proofs.Common.{◌≡◌, [], ◌∷◌, refl, sym, ap, ◌∙◌, subst, Some, List, ℕ}
+use Rattle.std.specs.Prelude.{Ok}
 use Rattle.std.proofs.lemmas.Result.{err_from_is_err_and}
 use Rattle.sz_attempt.specs.declared.job.Job.{Job}
 use Rattle.sz_mean.specs.Marked.{marked, all_tables}
@@ -13,7 +13,6 @@ use Rattle.szl.specs.Failing.{status_of}
 use Rattle.szl.specs.JournalRuns.{failure_of_journal, AnswersJob, IsBehindRounds, but_one}
 use Rattle.szl.specs.Opening.{status_of_answer}
 use Rattle.szl.specs.ProgramRuns.{vec_items_of}
-use Rattle.szl.specs.ResumePromise.{KeepsJob}
 use Rattle.szl.specs.Resuming.{source_of}
 use Rattle.szl.specs.Shards.{job_of}
 use Rattle.szl.proofs.JobLemmas.{no_job, no_journal, behind_journal, job_keeps, is_journal, keeps_unopened}

@@ -1,6 +1,5 @@
 -- The text is read as a program, which is answered.
-use Rattle.std.proofs.Common.{◌≡◌, sym, ap, subst, [], ◌∷◌, List, ℕ}
-use Rattle.std.specs.Prelude.{Err, Ok}
+use Rattle.std.proofs.Common.{◌≡◌, ap, subst, [], ◌∷◌, List, ℕ}
 use Rattle.std.proofs.lemmas.Result.{err_from_is_err_and}
 use Rattle.sz_tree.specs.View.{program_of}
 use Rattle.sz_mean.specs.Marked.{marked}

@@ -1,5 +1,5 @@
 -- The input is opened, and run on behind the rounds of the journal.
-use Rattle.std.proofs.Common.{[], refl, sym, ap, ◌∙◌, subst, arith}
+use Rattle.std.proofs.Common.{[], refl, ap, ◌∙◌, subst, arith}
 use Rattle.std.specs.Prelude.{Err, Ok, IfSome, IsSome}
 use Rattle.std.proofs.lemmas.Result.{err_from_is_err_and}
 use Rattle.sz_io.specs.Opened.{names_after}
@@ -8,8 +8,7 @@ use Rattle.sz_journal.specs.Journal.{rounds_of}
 use Rattle.sz_resume.specs.Runs.{TellsShort}
 use Rattle.szl.specs.declared.status.Status.TheVariants as status
 use Rattle.szl.specs.Failing.{status_of}
-use Rattle.szl.specs.JournalRuns.{failure_of_halt, as_memory}
-use Rattle.szl.specs.Opening.{status_of_answer}
+use Rattle.szl.specs.JournalRuns.{failure_of_halt}
 use Rattle.szl.specs.ProgramRuns.{failure_of_opening}
 use Rattle.szl.specs.Resuming.{source_of}
 use Rattle.szl.proofs.BehindRoundsLemmas.{unopened, no_memory, halted, texts, gate_of}

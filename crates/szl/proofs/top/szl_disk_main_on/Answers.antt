@@ -2,7 +2,7 @@ use Rattle.std.proofs.Common.{◌≡◌, ◌∙◌, sym, ap, subst, map}
 use Rattle.std.specs.Prelude.{string_bytes, Err}
 use Rattle.sz_io.specs.Rose.{Rose}
 use Rattle.sz_words.specs.Settings.{settings_in}
-use Rattle.szl.specs.Opening.{Answers, status_of_answer}
+use Rattle.szl.specs.Opening.{status_of_answer}
 use Rattle.szl.specs.Promise.{MeansSource}
 use Rattle.szl.specs.ProgramRuns.{vec_items_of}
 use Rattle.szl.specs.ResumePromise.{ByCommand, MeansJob, KeepsJournal}

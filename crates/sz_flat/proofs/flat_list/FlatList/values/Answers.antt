@@ -1,6 +1,5 @@
 -- The values that are read are those that are kept.
 use Rattle.std.proofs.Common.{◌∙◌, Err, sym, ap, subst}
-use Rattle.sz_flat.specs.declared.error.FlatError.TheVariants as errors
 use Rattle.sz_flat.specs.Lists.{SpellsAll, SpellNone}
 use Rattle.sz_flat.proofs.ListLemmas.{values_are, can_be_read}
 use Rattle.sz_flat.proofs.flat_list.FlatList.values.Goals as goal

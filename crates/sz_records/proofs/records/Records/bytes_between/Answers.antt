@@ -1,5 +1,5 @@
 -- The places where records end tell how many bytes lie between two of them.
-use Rattle.std.proofs.Common.{◌≡◌, ◌-◌, ◌∷◌, get_or, ap, arith}
+use Rattle.std.proofs.Common.{◌≡◌, ◌∷◌, get_or, ap, arith}
 use Rattle.sz_records.specs.Ends.{RecordsData}
 use Rattle.sz_records.proofs.EndsLemmas.{ends_up_to, bytes_held}
 use Rattle.sz_records.proofs.records.Records.bytes_between.Goals as goal

@@ -1,5 +1,5 @@
 -- The records that are left begin where the first ones end, in the buffer and in their file.
-use Rattle.std.proofs.Common.{◌≡◌, ◌+◌, ◌-◌, ◌*◌, ◌<◌, ◌≤◌, ◌^◌, ◌∷◌, length, drop, get_or, sym, ap, arith, ◌∙◌, length-drop}
+use Rattle.std.proofs.Common.{◌≡◌, ◌+◌, ◌-◌, ◌*◌, ◌≤◌, ◌∷◌, length, drop, get_or, ap, arith, length-drop}
 use Rattle.sz_records.specs.Ends.{RecordsData, records_at, file_ends}
 use Rattle.sz_records.proofs.EndsLemmas.{ends_up_to, place_within, cleared, same_data}
 use Rattle.sz_records.proofs.LaidLemmas.{laid_reach, ends_later}

@@ -1,5 +1,5 @@
 -- The record is laid as those before it, or placed.
-use Rattle.std.proofs.Common.{◌≡◌, ◌+◌, ◌-◌, ◌<◌, ◌≤◌, ◌++◌, ◌∷◌, [], length, sym, ap, arith, ◌∙◌, length-append}
+use Rattle.std.proofs.Common.{◌≡◌, ◌+◌, ◌-◌, ◌++◌, ◌∷◌, [], length, ap, arith, ◌∙◌, length-append}
 use Rattle.sz_records.specs.Ends.{RecordsData, records_at, file_ends}
 use Rattle.sz_records.specs.Laid.{Continues}
 use Rattle.sz_records.specs.declared.laid.Laid.{Laid}

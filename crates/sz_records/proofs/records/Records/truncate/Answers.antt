@@ -1,5 +1,5 @@
 -- The first records end where they did.
-use Rattle.std.proofs.Common.{◌≡◌, ◌+◌, ◌-◌, ◌<◌, ◌≤◌, ◌∷◌, length, take, get_or, sym, ap, arith, ◌∙◌}
+use Rattle.std.proofs.Common.{◌≡◌, ◌-◌, ◌<◌, ◌≤◌, ◌∷◌, length, take, get_or, sym, ap, arith}
 use Rattle.std.proofs.lemmas.List.{take_all, length-take-le}
 use Rattle.sz_records.specs.Ends.{RecordsData, records_at, file_ends}
 use Rattle.sz_records.proofs.EndsLemmas.{records_len, place_within, kept, same_data}
