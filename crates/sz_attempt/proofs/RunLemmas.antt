@@ -148,10 +148,6 @@ pub record IsRunUpTo (job : Job) (first : ℕ) (records : List (List ℕ)) (i : 
   pub count : total.count ≤ 2 ^ 32 * i
 
 module _ (job : Job) (first : ℕ) (records : List (List ℕ)) where
-  -- nothing is run yet
-  pub run_none : (total : TotalState) → StandForEmits job.compiled total [] → total.count ≡ 0 → IsRunUpTo job first records 0 total []
-  run_none total holds none = record { few = omega arith; passed = refl; holds = holds; count = omega (arith, none) }
-
   -- what comes of one record more
   means_next : (i : ℕ) (r : List ℕ) (o : Outcome (List EmitDatum)) → slice_get records i ≡ Some r → mean job.compiled job.statics job.budget r ≡ o
       → means job first (take (i + 1) records) ≡ both (means job first (take i records)) (yield_of (first + i) o)

@@ -12,9 +12,6 @@ use Rattle.sz_check_rules.specs.Names.{Block, has}
 use Rattle.sz_check_rules.specs.Scene.{Scene}
 use Rattle.sz_check_rules.proofs.Holds.{good, good_is}
 use Rattle.sz_check_names.specs.Knowledge.{Knowledge, scene_of}
-use Rattle.sz_check_names.specs.Outcome.{Stops}
-use Rattle.sz_check_names.specs.declared.error.JudgeError.{JudgeError}
-use Rattle.sz_check_names.specs.declared.error.JudgeError.TheVariants as errors
 use Rattle.sz_check_laws.specs.JudgingWithTypes.{NamedShape, named_type, block_of_types}
 use Rattle.sz_check.specs.RoundTypes.{named_shape, named_shapes, with_named_type}
 
@@ -133,13 +130,3 @@ types_more before k after types i t within is has same =
     rest_of : List Block → List Block
     rest_of [] = []
     rest_of (b ∷ bs) = bs
-
--- the scene of all
-pub types_all : (before after : Knowledge) (types : List TypeShape) → HasTypes before after types
-    → good (record { blocks = block_of_types (named_shapes types) ∷ before.outside.seen; locals = before.locals }) ≡ good (scene_of after)
-types_all before after types has = λ i. good (record { blocks = sym has.block i ∷ sym has.outside i; locals = sym has.locals i })
-
--- what stops a judgement that refuses nothing is that memory ran out
-pub stops_good : {A B : Type 0} (e : JudgeError) (x : A) (y : B) → Stops e (good x) → Stops e (good y)
-stops_good (errors.Refused cause p name) x y h = absurd cc
-stops_good errors.NoMemory x y h = tt

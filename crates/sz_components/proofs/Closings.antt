@@ -1,7 +1,7 @@
 -- Nodes are closed one after the other, from the end of the path.
 use Rattle.std.proofs.Common.{◌≡◌, ◌≢◌, ℕ, ◌+◌, ◌-◌, ◌<◌, ◌≤◌, ◌⊎◌, inl, inr, List, [], ◌∷◌, ◌++◌, length, take, set, slice_get, get_or, Some, refl, sym, ap, ◌∙◌, subst, arith}
 use Rattle.std.proofs.lemmas.Bool.{cases_lt, cases_eq}
-use Rattle.std.proofs.lemmas.List.{length_push, length-set, length-take-le, take_all, take-take, get_or_past, take_more}
+use Rattle.std.proofs.lemmas.List.{length_push, length-set, length-take-le, take_all, take-take, get_or_past}
 use Rattle.std.proofs.lemmas.Option.{same_Some}
 use Rattle.sz_components.specs.declared.mark.Mark.{Mark}
 use Rattle.sz_components.specs.declared.mark.Mark.TheVariants as mark
@@ -24,15 +24,6 @@ pub last_of : {X : Type 0} (xs rest : List X) (x : X) → xs ≡ rest ++ x ∷ [
 last_of xs rest x e =
     let n : length xs - 1 ≡ length rest = omega (arith, ap length e, length_push rest x) in
     ap (slice_get xs) n ∙ ap (λ l. slice_get l (length rest)) e ∙ at_end rest x
-
-pub front_of_last : {X : Type 0} (xs : List X) (x : X) → slice_get xs (length xs - 1) ≡ Some x → (front : List X) × (xs ≡ front ++ x ∷ [])
-front_of_last xs x a =
-    let l = at_within xs (length xs - 1) x a in
-    let n : length xs ≤ (length xs - 1) + 1 = omega arith in (
-      take (length xs - 1) xs,
-      sym (take_all ((length xs - 1) + 1) xs n) ∙ take_more xs (length xs - 1) x l
-          ∙ ap (λ y. take (length xs - 1) xs ++ y ∷ []) (same_Some (get_or xs (length xs - 1) x) x (sym (at_get_or xs (length xs - 1) x l) ∙ a)),
-    )
 
 module _ (marks : List Mark) (path : List ℕ) (h : IsPath marks path) where
   -- what is popped has a mark

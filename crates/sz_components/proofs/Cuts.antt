@@ -3,7 +3,6 @@ use Rattle.std.proofs.Common.{◌≡◌, ℕ, ◌+◌, ◌<◌, ◌≤◌, ◌�
 use Rattle.std.proofs.lemmas.Bool.{cases_lt}
 use Rattle.std.proofs.lemmas.List.{length_push, take_all, take_at, take-take}
 use Rattle.sz_components.specs.declared.mark.Start.{Start}
-use Rattle.sz_components.specs.Search.{IsCut}
 use Rattle.sz_components.proofs.Places.{at_within, at_end, at_taken}
 
 -- so far only starts behind the place are taken away
@@ -48,7 +47,3 @@ cut_goes_on place starts old after t h e l = record {
         split : (length after < i) ⊎ (i ≤ length after) → place < s.place
         split (inl c) = h.behind i s a (omega (arith, c, count))
         split (inr c) = at_own i s a (omega (arith, b, c))
-
-pub cut_ends : (place : ℕ) (starts after : List Start) → IsCutting place starts after
-    → ((i : ℕ) (s : Start) → slice_get after i ≡ Some s → i + 1 ≡ length after → s.place ≤ place) → IsCut place starts after
-cut_ends place starts after h last = record { front = h.front; behind = h.behind; last = last }

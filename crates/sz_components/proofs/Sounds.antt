@@ -8,7 +8,7 @@ use Rattle.sz_components.specs.declared.mark.Start.{Start}
 use Rattle.sz_components.specs.declared.mark.Link.{Link}
 use Rattle.sz_components.specs.declared.search.Search.{Search}
 use Rattle.sz_components.specs.Components.{links_of, IsGraph, Leads}
-use Rattle.sz_components.specs.Search.{mark_of, link, start_at, none_spared, IsOpen, IsSearch, IsWhole, IsSound, IsCut, IsClosing, weight, unseen_steps, steps_of, IsSettled, closed, inside, owed, spared_end}
+use Rattle.sz_components.specs.Search.{mark_of, link, start_at, none_spared, IsOpen, IsSearch, IsWhole, IsSound, IsCut, IsClosing, weight, unseen_steps, steps_of}
 use Rattle.sz_components.proofs.Places.{at_within, at_end, at_last, at_get_or, at_taken, taken_at}
 use Rattle.sz_components.proofs.Taken.{link_taken, lead_to_end, parts_joined}
 use Rattle.sz_components.proofs.Opened.{node_opened}
@@ -23,29 +23,6 @@ whole_as graph marks marks' path path' starts starts' pending pending' next next
     subst (λ x. IsWhole graph x path' starts' pending' next') (sym a) (subst (λ x. IsWhole graph marks x starts' pending' next') (sym b)
     (subst (λ x. IsWhole graph marks path x pending' next') (sym c) (subst (λ x. IsWhole graph marks path starts x next') (sym d)
     (subst (λ x. IsWhole graph marks path starts pending x) (sym e) h))))
-
--- where nothing is spared, anything may be
-pub spares : (graph : List (List ℕ)) (spared : ℕ → Type 0) (s : Search) → IsSound graph none_spared s → IsSound graph spared s
-spares graph spared s h = record {
-  room = h.room;
-  placed = h.placed;
-  opened = h.opened;
-  reach = h.reach;
-  settled = λ u v p i t o l a b. by u v t (h.settled u v p i t o l a b);
-  falling = h.falling;
-  together = h.together;
-  below = h.below;
-  owing = h.owing;
-  rising = h.rising;
-  covered = h.covered;
-  bounds = h.bounds;
-}
-  where
-    by : (u v : ℕ) (t : Start) → IsSettled none_spared s.marks.items s.pending.items t u v → IsSettled spared s.marks.items s.pending.items t u v
-    by u v t (closed k c) = closed k c
-    by u v t (inside p o b) = inside p o b
-    by u v t (owed i b a) = owed i b a
-    by u v t (spared_end x) = absurd x
 
 -- ---- a node is opened
 

@@ -1,10 +1,9 @@
 -- How many steps are left, and which nodes were seen.
-use Rattle.std.proofs.Common.{◌≡◌, ◌≢◌, ℕ, zero, suc, ◌+◌, ◌<◌, ◌⊎◌, inl, inr, Bool, true, false, nat_lt, if◌then◌else◌, List, [], ◌∷◌, length, set, refl, sym, ap, ◌∙◌, arith}
+use Rattle.std.proofs.Common.{◌≡◌, ℕ, zero, suc, ◌+◌, ◌<◌, Bool, true, false, nat_lt, if◌then◌else◌, List, [], ◌∷◌, length, set, refl, ap, ◌∙◌, arith}
 use Rattle.sz_components.specs.declared.mark.Mark.{Mark}
 use Rattle.sz_components.specs.declared.mark.Mark.TheVariants as mark
 use Rattle.sz_components.specs.Components.{links_of}
-use Rattle.sz_components.specs.Search.{mark_of, closing, IsClosing, KeepsSeen, weight, unseen_steps}
-use Rattle.sz_components.proofs.Ways.{open_unseen, closed_unseen, set_cases}
+use Rattle.sz_components.specs.Search.{mark_of, closing, IsClosing, weight, unseen_steps}
 
 pub steps_set : (marks : List Mark) (graph : List (List ℕ)) (v : ℕ) (m : Mark) → v < length marks → length marks ≡ length graph
     → unseen_steps (set marks v m) graph + weight (mark_of marks v) (links_of graph v) ≡ unseen_steps marks graph + weight m (links_of graph v)
@@ -40,23 +39,3 @@ steps_closing place number marks after graph c =
     (λ u. ap (λ m. weight m (links_of graph u)) (c.marked u) ∙ closing_weight place number (mark_of marks u) (links_of graph u))
 
 -- ---- what was seen stays so
-
-pub seen_set : (marks : List Mark) (v : ℕ) (p : ℕ) → v < length marks → KeepsSeen marks (set marks v (mark.Open p))
-seen_set marks v p l u e = by (set_cases marks v (mark.Open p) l u)
-  where
-    by : ((u ≡ v) × (mark_of (set marks v (mark.Open p)) u ≡ mark.Open p)) ⊎ ((u ≢ v) × (mark_of (set marks v (mark.Open p)) u ≡ mark_of marks u))
-        → mark_of marks u ≡ mark.Unseen
-    by (inl f) = absurd (open_unseen p (sym f.1 ∙ e))
-    by (inr f) = sym f.1 ∙ e
-
-pub seen_closing : (place number : ℕ) (marks after : List Mark) → IsClosing place number marks after → KeepsSeen marks after
-seen_closing place number marks after c u e = by (mark_of marks u) (sym (c.marked u) ∙ e)
-  where
-    by_test : (b : Bool) (p : ℕ) → (if b then mark.Open p else mark.Closed number) ≡ mark.Unseen → mark.Open p ≡ mark.Unseen
-    by_test true p f = f
-    by_test false p f = absurd (closed_unseen number f)
-
-    by : (m : Mark) → closing place number m ≡ mark.Unseen → m ≡ mark.Unseen
-    by mark.Unseen f = refl
-    by (mark.Open p) f = by_test (nat_lt p place) p f
-    by (mark.Closed k) f = absurd (closed_unseen k f)

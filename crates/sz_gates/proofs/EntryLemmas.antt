@@ -1,5 +1,5 @@
 -- What bytes hold once an entry was appended, and what they hold in between.
-use Rattle.std.proofs.Common.{◌≡◌, inl, inr, ℕ, ◌+◌, ◌<◌, List, [], ◌∷◌, ◌++◌, length, Option, refl, sym, ◌∙◌, ap, subst, arith, append_assoc, length-append}
+use Rattle.std.proofs.Common.{◌≡◌, inl, inr, ℕ, ◌+◌, List, [], ◌∷◌, ◌++◌, length, Option, sym, ◌∙◌, ap, subst, arith, append_assoc, length-append}
 use Rattle.std.specs.List.{AllByRecursion}
 use Rattle.std.proofs.lemmas.List.{append-nil}
 use Rattle.std.proofs.lemmas.List.Concat.{flat_map-append}
@@ -13,9 +13,6 @@ use Rattle.sz_gates.proofs.LeaveLemmas.{leaves_if}
 
 pub opened_long : (entry : List ℕ) → length (opened entry) ≡ 9 + length entry
 opened_long entry = let parts = length-append (count_bytes (length entry)) entry in omega (arith, parts)
-
-pub gate_long : (entry : List ℕ) → length (with_gate entry) ≡ length (opened entry)
-gate_long entry = let parts = length-append (with_length entry) (0 ∷ []) in omega (arith, parts)
 
 pub opened_more : (entries : List (List ℕ)) (entry : List ℕ) → all_opened (entries ++ entry ∷ []) ≡ all_opened entries ++ opened entry
 opened_more entries entry = flat_map-append opened entries (entry ∷ []) ∙ ap (λ (l : List ℕ). all_opened entries ++ l) (append-nil (opened entry))
@@ -86,12 +83,6 @@ empty_of (gate ∷ byte ∷ bytes) holds = λ is_open. holds.closed (sym (first 
   where
     first : gate ∷ byte ∷ bytes ≡ holds.gate ∷ holds.behind → gate ≡ holds.gate
     first e = cc
-
--- two bytes or more that hold no entry have a closed gate
-pub holds_none : (bytes : List ℕ) → 1 < length bytes → IsEmpty bytes → Holds [] bytes
-holds_none [] long none = absurd (omega (arith, long))
-holds_none (gate ∷ []) long none = absurd (omega (arith, long))
-holds_none (gate ∷ byte ∷ bytes) long none = record { gate = gate; behind = byte ∷ bytes; is = refl; closed = none; counted = tt }
 
 -- once there was no entry or one, it is so
 pub empty_or_one : (entry image : List ℕ) → HoldsOneOf [] entry image → IsEmptyOrHolds entry image

@@ -1,16 +1,11 @@
 -- What records mean in parts.
-use Rattle.std.proofs.Common.{◌≡◌, ℕ, suc, ◌≤◌, List, [], ◌∷◌, ◌++◌, refl, sym, ap, arith, append_assoc}
+use Rattle.std.proofs.Common.{◌≡◌, ℕ, suc, ◌≤◌, List, [], ◌∷◌, arith}
 use Rattle.sz_tabs.specs.Data.{EmitDatum}
 use Rattle.sz_world_rules.specs.World.{Fault, Outcome, Done, Faulted}
 use Rattle.sz_world_rules.specs.Slots.{Slot}
 use Rattle.sz_mean.specs.Marked.{Marked}
 use Rattle.sz_mean.specs.Programs.{mean}
 use Rattle.sz_mean.specs.Records.{Records, Emitted, FaultedAt, after_emits, then_records, mean_from}
-
--- emits in front of emits
-pub later_both : (front more : List EmitDatum) (r : Records) → after_emits front (after_emits more r) ≡ after_emits (front ++ more) r
-later_both front more (Emitted es) = ap Emitted (sym (append_assoc front more es))
-later_both front more (FaultedAt n f) = refl
 
 module _ (program : Marked) (slots : List Slot) (budget : ℕ) where
   -- the number of a record that faults is that of one of the records

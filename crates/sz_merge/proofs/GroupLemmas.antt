@@ -3,14 +3,12 @@ use Rattle.std.proofs.Common.{◌≡◌, ◌∙◌, ℕ, ◌+◌, ◌^◌, ◌�
 use Rattle.std.proofs.lemmas.List.{map-append}
 use Rattle.sz_types.specs.Tables.{Declaration}
 use Rattle.sz_save_format.specs.Saved.{SavedState, CanBeSaved, Saves}
-use Rattle.sz_save_format.specs.declared.error.SavedError.{SavedError}
-use Rattle.sz_save_format.specs.declared.error.SavedError.TheVariants as reading
 use Rattle.sz_merge.specs.declared.error.MergeError.{MergeError}
 use Rattle.sz_merge.specs.declared.error.MergeError.TheVariants.{BadTables, OtherTables, TablesLimit, NoMemory}
-use Rattle.sz_merge.specs.Files.{IsUnfit, IsStopped, error_of_reading}
+use Rattle.sz_merge.specs.Files.{IsUnfit, IsStopped}
 use Rattle.sz_save_laws.specs.Laws.{Gives}
 use Rattle.sz_merge.specs.declared.groups.Group.{Group}
-use Rattle.sz_merge.specs.Together.{AreTogether, bounds_of, HasSameTables, HaveTables, HaveSameTables, CanBeTogether}
+use Rattle.sz_merge.specs.Together.{bounds_of, HasSameTables, HaveTables, HaveSameTables, CanBeTogether}
 use Rattle.sz_merge.specs.Groups.{Gather, AreOf, Adds, Regroups, HasBound, held_by}
 use Rattle.sz_merge.proofs.TogetherLemmas.{bounds_of_both, led, bound_together, alone, joined_together, can_more}
 
@@ -112,10 +110,6 @@ pub held_two : (groups now : List Group) (last : Group) (s : SavedState) → now
 held_two groups now last s is =
     ap (λ l. held_by l ++ s ∷ []) is ∙ ap (λ l. l ++ s ∷ []) (held_more groups last) ∙ append_assoc (held_by groups) (last.saved ∷ []) (s ∷ [])
 
--- all groups together
-pub gathered_all : (all : SavedState) (states : List SavedState) → Gather (all ∷ []) states → AreTogether states all
-gathered_all all states h = subst (λ l. AreTogether l all) (sym (h.2 ∙ ap (λ l. h.0 ++ l) h.4 ∙ append-nil h.0)) h.3
-
 -- ---- a file is added, or not
 
 module _ (groups before : List SavedState) (bytes : List ℕ) (saved : SavedState) (are : AreOf groups before) (saves : Saves bytes saved) where
@@ -142,12 +136,6 @@ module _ (groups before : List SavedState) (bytes : List ℕ) (saved : SavedStat
       let bounds = bounds_gathered groups before are.gather in
       (saved, saves, (same_gathered groups before saved are.gather h.0, omega (arith, bounds, h.1)))
   unfit_stops NoMemory h = absurd h
-
--- why a file that can't be read isn't added
-pub unread_stops : (before : List SavedState) (bytes : List ℕ) (e : SavedError) → (e ≡ reading.NotSaved → (state : SavedState) → Saves bytes state → ⊥)
-    → IsStopped before bytes (error_of_reading e)
-unread_stops before bytes reading.NotSaved h = h refl
-unread_stops before bytes reading.NoMemory h = tt
 
 -- groups with one more have a bound, and are some
 pub bound_more : (groups now : List SavedState) (saved : SavedState) (bound all : ℕ) → bound ≡ bounds_of groups → all ≡ bound + saved.bound

@@ -37,8 +37,5 @@ unfolding guard
 guard_holds true h = h
 guard_holds false h = none_holds _
 
-pub weaker : {A : Type 0} {o : Option A} {P Q : A → Type 0} → Holds o P → ((x : A) → P x → Q x) → Holds o Q
-weaker h k = record { holds = λ x e. k x (h.holds x e) }
-
 pub anything : {A : Type 0} (o : Option A) → Holds o (λ _. Unit {0})
 anything o = record { holds = λ x e. tt }

@@ -1,29 +1,11 @@
--- The loops over digits, over the bytes of a name, and over what is passed over.
-use Rattle.std.proofs.Common.{◌≡◌, ℕ, ◌<◌, ◌≤◌, ◌+◌, ◌-◌, Bool, true, false, List, [], ◌∷◌, ◌++◌, length, take, drop, get_or, Option, Some, None, refl, sym, ap, ◌∙◌, arith}
+-- The loops over digits, and over what is passed over.
+use Rattle.std.proofs.Common.{◌≡◌, ℕ, ◌<◌, ◌≤◌, ◌+◌, ◌-◌, Bool, List, [], ◌∷◌, ◌++◌, length, take, drop, get_or, Option, Some, None, refl, sym, ap, ◌∙◌, arith}
 use Rattle.std.proofs.lemmas.List.{drop_all, take_all, length-drop, at_drop_more}
-use Rattle.sz_lex.specs.Classes.{is_word}
-use Rattle.sz_lex.specs.Tokens.{all_word}
 use Rattle.sz_protofile_lex.specs.declared.token.Token.{Token}
 use Rattle.sz_protofile.specs.declared.brackets.Turn.{Turn}
 use Rattle.sz_protofile.specs.declared.brackets.Turn.TheVariants as turns
 use Rattle.sz_protofile.specs.Reading.{digits_from, push_digit, bind}
 use Rattle.sz_protofile.specs.Brackets.{innermost, outer, at_end, turn_of, taken, past}
-
--- ---- the bytes of a name
-
-module _ (bytes : List ℕ) (i : ℕ) (r : Bool) (so_far : all_word (drop i bytes) ≡ r) where
-  pub word_stops : i < length bytes → is_word (get_or bytes i 0) ≡ false → false ≡ r
-  word_stops lt other =
-      let e : all_word (get_or bytes i 0 ∷ drop (i + 1) bytes) ≡ false = rw other refl in
-      sym e ∙ sym (at_drop_more all_word bytes i 0 lt) ∙ so_far
-
-  pub word_goes_on : i < length bytes → is_word (get_or bytes i 0) ≡ true → all_word (drop (i + 1) bytes) ≡ r
-  word_goes_on lt same =
-      let e : all_word (get_or bytes i 0 ∷ drop (i + 1) bytes) ≡ all_word (drop (i + 1) bytes) = rw same refl in
-      sym e ∙ sym (at_drop_more all_word bytes i 0 lt) ∙ so_far
-
-  pub word_ends : length bytes ≤ i → true ≡ r
-  word_ends le = sym (ap all_word (drop_all i bytes le)) ∙ so_far
 
 -- ---- digits
 

@@ -41,12 +41,6 @@ capped_sum a b = by (cases_lt most_fields a)
         ap (λ n. capped (n + b)) (large a l) ∙ large (most_fields + 1 + b) (omega arith) ∙ sym (large (a + b) (omega (arith, l)))
     by (inr l) = ap (λ n. capped (n + b)) (small a l)
 
-pub capped_sums : (a b : ℕ) → capped (capped a + capped b) ≡ capped (a + b)
-capped_sums a b =
-    let e : a + capped b ≡ capped b + a = omega arith in
-    let f : b + a ≡ a + b = omega arith in
-    capped_sum a (capped b) ∙ ap capped e ∙ capped_sum b a ∙ ap capped f
-
 pub capped_next : (a b : ℕ) → capped (capped a + (capped b + 1)) ≡ capped (a + (b + 1))
 capped_next a b =
     let e : a + (capped b + 1) ≡ capped b + (a + 1) = omega arith in

@@ -1,5 +1,5 @@
 -- What is found decides what a file is answered with.
-use Rattle.std.proofs.Common.{◌≡◌, ℕ, List, Some, None, refl, sym, ap, subst, ◌∙◌, arith}
+use Rattle.std.proofs.Common.{◌≡◌, ℕ, List, Some, None, sym, ap, subst, ◌∙◌, arith}
 use Rattle.sz_protofile.specs.declared.line.Line.{Line}
 use Rattle.sz_protofile_rules.specs.declared.fault.Fault.{Fault}
 use Rattle.sz_protofile_rules.specs.Names.{spelled}
@@ -18,17 +18,6 @@ no_memory = errors.NoMemory
 pub still_refused : (bytes : List ℕ) (e : ProtoError) → OrNoMemory e (IsFaulty bytes) → OrNoMemory e (IsRefused bytes)
 still_refused bytes (errors.Refused n p name) h = faulty _ h
 still_refused bytes errors.NoMemory h = tt
-
-ran_out : (e : ProtoError) (P : Fault → Type 0) → e ≡ no_memory → OrNoMemory e P
-ran_out e P is = subst (λ x. OrNoMemory x P) (sym is) tt
-
-module _ (bytes : List ℕ) (e : ProtoError) (none : (all : List Line) → IsSound bytes all → e ≡ no_memory) where
-  pub never_found : (answer : List TypeShape) → HasTypes bytes answer → e ≡ no_memory
-  never_found answer h = none h.all h.sound
-
-  pub still_only : ((f : Fault) → IsFaulty bytes f → OrNoMemory e (λ g. g ≡ f)) → (f : Fault) → IsRefused bytes f → OrNoMemory e (λ g. g ≡ f)
-  still_only only f (faulty g h) = only g h
-  still_only only f (large all s l) = ran_out e _ (none all s)
 
 -- ---- a file with these lines
 
@@ -73,7 +62,3 @@ module _ (bytes : List ℕ) (all : List Line) (sound : IsSound bytes all) (only 
 
   pub is_large : AreFound (spelled bytes) all None → IsRefused bytes (refused_at 6 first_place)
   is_large h = large all sound h.none
-
-  pub only_large : (f : Fault) → IsRefused bytes f → refused_at 6 first_place ≡ f
-  only_large f (faulty g w) = absurd (never g w)
-  only_large f (large other s l) = refl

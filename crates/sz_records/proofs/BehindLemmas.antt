@@ -147,17 +147,6 @@ pub place_rises : (frame : Frame) (limits : FrameLimits) (p n : ℕ) (bytes : Li
 place_rises frame limits p n bytes rs e count cut some few =
     let h = goes_on_behind frame limits p n bytes rs e count cut few in omega (arith, h.each, some)
 
--- after more records it lies further on
-pub places_rise : (frame : Frame) (limits : FrameLimits) (p n : ℕ) (bytes : List ℕ) (rs : List (List ℕ)) (e : Ending) (count more : ℕ)
-    → IsCut frame limits p n bytes rs e → 0 < more → count + more ≤ length rs
-    → place_after frame limits p n bytes count < place_after frame limits p n bytes (count + more)
-places_rise frame limits p n bytes rs e count more cut some few =
-    let h = goes_on_behind frame limits p n bytes rs e count cut (omega (arith, few)) in
-    let place = place_after frame limits p n bytes count in
-    let further = place_rises frame limits place (n + count) (drop (place - p) bytes) (drop count rs) e more h.rest some
-    (omega (arith, few, length-drop count rs)) in
-    omega (arith, further, h.later more)
-
 -- behind each record the rest of a file is cut as the file is
 pub the_rest_is_cut_so : RestIsCutSo
 the_rest_is_cut_so frame limits file rs e count cut few = record {

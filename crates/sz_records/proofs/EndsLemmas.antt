@@ -135,16 +135,6 @@ cleared ends bytes n place h le is =
     (moved place (drop n ends) bytes place (length bytes) later (omega arith)) in
     here ∙ rw is (sym (later_records 0 ends bytes n le))
 
-pub cleared_ends : (ends bytes : List ℕ) (n place : ℕ) → AreEnds 0 ends (length bytes) → n ≤ length ends → place ≡ get_or (0 ∷ ends) n 0
-    → AreEnds 0 (map (λ end. end - place) (drop n ends)) (length (drop place bytes))
-cleared_ends ends bytes n place h le is =
-    let none : place - place ≡ 0 = omega arith in
-    let later : AreEnds place (drop n ends) (length bytes) = rw is (later_ends 0 ends (length bytes) n h le) in
-    let here : AreEnds 0 (map (λ end. end - place) (drop n ends)) (length bytes - place) =
-    subst (λ (k : ℕ). AreEnds k (map (λ end. end - place) (drop n ends)) (length bytes - place)) none
-    (moved_ends place (drop n ends) place (length bytes) later (omega arith)) in
-    rw (length-drop place bytes) here
-
 -- the first records alone
 pub kept_ends : (ends bytes : List ℕ) (n place : ℕ) → AreEnds 0 ends (length bytes) → n ≤ length ends → place ≡ get_or (0 ∷ ends) n 0
     → AreEnds 0 (take n ends) (length (take place bytes))

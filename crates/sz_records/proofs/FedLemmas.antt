@@ -240,9 +240,6 @@ no_more p n frame limits file i into =
     let none : length into.items - length into.items ≡ 0 = omega arith in
     sym (append-nil into.ends) ∙ ap (λ (k : ℕ). into.ends ++ places_of (place_after frame limits p n file) i k) (sym none)
 
-pub none_came : (framer : FramerData) (piece : List ℕ) (into : RecordsData) → EndAsFed framer piece into into
-none_came framer piece into = λ p n frame limits fed given h more. no_more p n frame limits (fed ++ piece ++ more) (length given) into
-
 pub none_finished : (framer : FramerData) (into : RecordsData) → EndAsFinished framer into into
 none_finished framer into = λ p n frame limits fed given h. no_more p n frame limits fed (length given) into
 

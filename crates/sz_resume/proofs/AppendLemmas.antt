@@ -19,7 +19,6 @@ use Rattle.sz_journal.specs.declared.journal.Journal.{Journal}
 use Rattle.sz_journal.specs.Journal.{rounds_of, IsOf, CanAppend, KeepsRounds, SpellsOneOf}
 use Rattle.sz_stream.specs.declared.intake.Intake.{Intake}
 use Rattle.sz_stream.specs.Intakes.{moved_on}
-use Rattle.sz_stream.specs.InputRuns.{HasRound}
 use Rattle.sz_stream.proofs.RunLemmas as runs
 use Rattle.sz_resume.specs.Standing.{Source, Stands}
 use Rattle.sz_resume.specs.Stops.{IsLeft, LeavesRounds, SpellsMore}
@@ -32,21 +31,6 @@ use Rattle.sz_resume.proofs.WayLemmas.{spelled_at}
 use Rattle.sz_resume.proofs.TurnLemmas.{found_stands, stands_more, stand_more, fresh_of, goes_on_behind, goes_behind}
 
 module _ {job : Job} {before : List RoundEntry} {old : Intake} (h : HasNext job before old) where
-  -- what the calls of a round ask for
-  pub has_round : (emits : List EmitDatum) × HasRound job old emits
-  has_round = (
-    h.emits,
-    record {
-      done = done_of (last_progress before);
-      frame = h.frame;
-      most = h.most;
-      read = h.read;
-      over = h.over;
-      running = h.fresh.running;
-      some = h.some;
-    },
-  )
-
   pub is_round : IsRound old.round
   is_round = runs.is_round (done_of (last_progress before)) job h.frame h.most old h.emits h.read h.over h.fresh.running
 

@@ -1,6 +1,6 @@
 -- A job that is resumed, up to where its rounds end.
-use Rattle.std.proofs.Common.{◌≡◌, inl, inr, ℕ, ◌+◌, ◌<◌, ◌≤◌, Bool, true, false, List, [], ◌∷◌, ◌++◌, length, drop, Option, Some, None, IfSome}
-use Rattle.std.proofs.Common.{refl, sym, ap, ◌∙◌, subst, arith, append-nil, length-append}
+use Rattle.std.proofs.Common.{◌≡◌, inl, inr, ℕ, ◌+◌, ◌≤◌, Bool, true, List, [], ◌∷◌, ◌++◌, length, drop, Option, Some, None, IfSome}
+use Rattle.std.proofs.Common.{refl, sym, ap, ◌∙◌, subst, arith, length-append}
 use Rattle.std.specs.Prelude.{Result, Ok, Err}
 use Rattle.sz_mean.specs.Marked.{all_tables}
 use Rattle.sz_save_format.specs.Saved.{SavedState}
@@ -41,15 +41,6 @@ long_enough (Some s) (Some l) bytes input skips is =
     let same : s ≡ input = cc in
     let long = ap length (sym same ∙ skips.consumed) in
     let enough = skips.enough refl in omega (arith, long, enough, length-append skips.dropped l)
-
-pub too_short : (before after : Option (List ℕ)) (bytes : ℕ) (input : List ℕ) → Skips before after bytes false → before ≡ Some input → length input < bytes
-too_short None after bytes input skips is = absurd (cc)
-too_short (Some s) None bytes input skips is = absurd skips.consumed
-too_short (Some s) (Some l) bytes input skips is =
-    let same : s ≡ input = cc in
-    let short = skips.short refl in
-    let long = ap length (sym same ∙ skips.consumed ∙ ap (λ b. skips.dropped ++ b) short.1 ∙ append-nil skips.dropped) in
-    omega (arith, long, short.0)
 
 -- the same where the bytes of rounds were all dropped
 module _ {before after : Option (List ℕ)} {done : Done} {all : Bool} {now rounds : List RoundEntry} {input : List ℕ} (skips : Skips before after done.bytes all)

@@ -1,10 +1,10 @@
 -- Sums added, one by one.
-use Rattle.std.proofs.Common.{◌≡◌, ◌∙◌, ℕ, zero, suc, ◌+◌, ◌<◌, ◌≤◌, ◌^◌, ℤ, pos, ◌+ℤ◌, Some, None, List, [], ◌∷◌, ◌++◌, length, take, drop, set, slice_get, get_or, refl, sym, ap, subst, arith}
+use Rattle.std.proofs.Common.{◌≡◌, ◌∙◌, ℕ, zero, suc, ◌+◌, ◌<◌, ◌≤◌, ◌^◌, ℤ, pos, ◌+ℤ◌, Some, List, [], ◌∷◌, ◌++◌, length, take, drop, set, slice_get, get_or, refl, sym, ap, subst, arith}
 use Rattle.sz_tabs.specs.Bounds.{IsWithin, AreWithin}
-use Rattle.sz_tabs.specs.Data.{sums, RowDatum}
+use Rattle.sz_tabs.specs.Data.{RowDatum}
 use Rattle.sz_tabs.specs.Rows.{plus}
 use Rattle.sz_tabs.proofs.ForCallers.{within_further, within_plus}
-use Rattle.sz_save.specs.Joined.{sums_in, joined_sums}
+use Rattle.sz_save.specs.Joined.{sums_in}
 use Rattle.sz_save.specs.Walk.{CanAdd}
 
 pub length_of_plus : (ns ms : List ℤ) → length ms ≡ length ns → length (plus ns ms) ≡ length ns
@@ -104,15 +104,6 @@ pub are_near : (rows others : List RowDatum) (row : RowDatum) (tail : List RowDa
 are_near rows others row tail other other_tail ns ms split other_split are others_are can =
     subst (λ l. AreNear l ms) (sym are) (subst (AreNear (sums_in row.shown)) (sym others_are)
     (near row tail other other_tail (subst (CanAdd (row ∷ tail)) other_split (subst (λ l. CanAdd l others) split can))))
-
--- the row of both sums stands where that of the one side stood
-pub row_of_both : (rows others : List RowDatum) (row other : RowDatum) (tail : List RowDatum) (ns : List ℤ) (away added : RowDatum) → slice_get rows 0 ≡ Some row
-    → others ≡ other ∷ tail → ns ≡ sums_in other.shown → added ≡ record { shown = sums (plus (sums_in row.shown) ns); weight = None }
-    → take 1 (set (set rows 0 away) 0 added) ≡ joined_sums rows others
-row_of_both [] others row other tail ns away added there split are is = absurd (cc)
-row_of_both (r ∷ rows) others row other tail ns away added there split are is =
-    let first : r ≡ row = cc in
-    (λ i. is i ∷ []) ∙ (λ i. record { shown = sums (plus (sums_in (sym first i).shown) (are i)); weight = None } ∷ []) ∙ (λ i. joined_sums (r ∷ rows) (sym split i))
 
 -- the same, where the first row is found at its place
 pub found_near : (rows others : List RowDatum) (row other : RowDatum) (tail : List RowDatum) (ms : List ℤ) → slice_get rows 0 ≡ Some row → others ≡ other ∷ tail

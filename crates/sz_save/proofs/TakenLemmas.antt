@@ -1,5 +1,5 @@
 -- The first index list of both sides, taken.
-use Rattle.std.proofs.Common.{◌≡◌, ◌∙◌, ℕ, zero, suc, ◌+◌, ◌<◌, ◌≤◌, Some, None, List, [], ◌∷◌, length, drop, get_or, slice_get, refl, sym, ap, subst, arith, Less, Equal, Greater}
+use Rattle.std.proofs.Common.{◌≡◌, ◌∙◌, ℕ, zero, suc, ◌+◌, ◌<◌, ◌≤◌, Some, List, [], ◌∷◌, length, drop, slice_get, refl, sym, ap, subst, arith, Less, Equal, Greater}
 use Rattle.sz_types.specs.declared.table.TableKind.{TableKind}
 use Rattle.sz_tabs.specs.Rows.{compare_indexes}
 use Rattle.sz_total.specs.Tables.{Indexed}
@@ -9,51 +9,6 @@ use Rattle.sz_save.specs.Taken.{Takes}
 use Rattle.sz_save.proofs.WalkLemmas.{alone_can, other_can, both_can, steps_other, steps_alone, steps_less, steps_equal, steps_greater}
 
 -- ---- how the first index lists compare
-
-pub firsts_none : (es os : List Indexed) → length es ≡ 0 → length os ≡ 0 → None ≡ compare_firsts es os
-firsts_none [] [] few also = refl
-firsts_none [] (o ∷ os) few also = absurd (omega (arith, also))
-firsts_none (e ∷ es) os few also = absurd (omega (arith, few))
-
-pub firsts_one : (es os : List Indexed) → 0 < length es → length os ≡ 0 → Some Less ≡ compare_firsts es os
-firsts_one [] os there none = absurd (omega (arith, there))
-firsts_one (e ∷ es) [] there none = refl
-firsts_one (e ∷ es) (o ∷ os) there none = absurd (omega (arith, none))
-
-pub firsts_other : (es os : List Indexed) → length es ≡ 0 → 0 < length os → Some Greater ≡ compare_firsts es os
-firsts_other [] [] none there = absurd (omega (arith, there))
-firsts_other [] (o ∷ os) none there = refl
-firsts_other (e ∷ es) os none there = absurd (omega (arith, none))
-
-pub firsts_both : (es os : List Indexed) (e o : Indexed) → 0 < length es → 0 < length os → e ≡ get_or es 0 e → o ≡ get_or os 0 o
-    → Some (compare_indexes e.indexes o.indexes) ≡ compare_firsts es os
-firsts_both [] os e o there also is are = absurd (omega (arith, there))
-firsts_both (d ∷ es) [] e o there also is are = absurd (omega (arith, also))
-firsts_both (d ∷ es) (p ∷ os) e o there also is are = λ i. Some (compare_indexes (is i).indexes (are i).indexes)
-
-pub none_first : (es os : List Indexed) → None ≡ compare_firsts es os → (es ≡ []) × (os ≡ [])
-none_first [] [] is = (refl, refl)
-none_first [] (o ∷ os) is = absurd (cc)
-none_first (e ∷ es) [] is = absurd (cc)
-none_first (e ∷ es) (o ∷ os) is = absurd (cc)
-
--- a side has an index list where its first one comes first
-pub one_has : (es os : List Indexed) → Some Less ≡ compare_firsts es os → 1 ≤ length es
-one_has [] [] is = absurd (cc)
-one_has [] (o ∷ os) is = absurd (cc)
-one_has (e ∷ es) os is = omega arith
-
-pub other_has : (es os : List Indexed) → Some Greater ≡ compare_firsts es os → 1 ≤ length os
-other_has [] [] is = absurd (cc)
-other_has [] (o ∷ os) is = omega arith
-other_has (e ∷ es) [] is = absurd (cc)
-other_has (e ∷ es) (o ∷ os) is = omega arith
-
-pub both_have : (es os : List Indexed) → Some Equal ≡ compare_firsts es os → (1 ≤ length es) × (1 ≤ length os)
-both_have [] [] is = absurd (cc)
-both_have [] (o ∷ os) is = absurd (cc)
-both_have (e ∷ es) [] is = absurd (cc)
-both_have (e ∷ es) (o ∷ os) is = (omega arith, omega arith)
 
 -- ---- what was taken is a step of the walk
 

@@ -1,5 +1,5 @@
 -- The steps of the walk over the index lists of both sides.
-use Rattle.std.proofs.Common.{◌≡◌, ◌∙◌, ℕ, ◌+◌, List, [], ◌∷◌, ◌++◌, length, sym, ap, subst, arith, append_assoc, append-nil, Ordering, Less, Equal, Greater}
+use Rattle.std.proofs.Common.{◌≡◌, ◌∙◌, ℕ, ◌+◌, List, [], ◌∷◌, ◌++◌, length, sym, ap, subst, arith, Ordering, Less, Equal, Greater}
 use Rattle.std.specs.List.{AllByRecursion}
 use Rattle.std.specs.Ordering.{match_ordering}
 use Rattle.sz_types.specs.declared.table.TableKind.{TableKind}
@@ -154,18 +154,6 @@ module _ (kind : TableKind) (limit : ℕ) where
       shorter = omega (arith, ap length other_split);
       can = can_left kind entries o os (subst (CanJoin kind entries) other_split can);
     }
-
--- one more is joined
-pub walk_more : (kind : TableKind) (limit : ℕ) (all joined next rest left after left_after : List Indexed) (entry : Indexed)
-    → joined ++ joined_entries kind limit rest left ≡ all → Steps kind limit rest left entry after left_after → next ≡ joined ++ entry ∷ []
-    → next ++ joined_entries kind limit after left_after ≡ all
-walk_more kind limit all joined next rest left after left_after entry before step pushed =
-    ap (λ l. l ++ joined_entries kind limit after left_after) pushed
-    ∙ append_assoc joined (entry ∷ []) (joined_entries kind limit after left_after) ∙ ap (λ l. joined ++ l) (sym step.is) ∙ before
-
-pub walk_ends : (kind : TableKind) (limit : ℕ) (all joined rest left : List Indexed) → joined ++ joined_entries kind limit rest left ≡ all
-    → joined_entries kind limit rest left ≡ [] → joined ≡ all
-walk_ends kind limit all joined rest left before none = sym (append-nil joined) ∙ ap (λ l. joined ++ l) (sym none) ∙ before
 
 pub counted_more : (es : List Indexed) (e : Indexed) (next : List Indexed) → AllByRecursion HasCountedRows es → HasCountedRows e → next ≡ es ++ e ∷ []
     → AllByRecursion HasCountedRows next

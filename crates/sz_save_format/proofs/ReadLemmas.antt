@@ -64,11 +64,6 @@ module _ (count : ℕ) (parts : Decoder (List Datum)) (flat mid : List ℕ) (n :
       to_count ∙ only_true (n == count) (and_then (parts behind) (λ es end. Some (tuple (data_of es), end))) (eq-eqb n count same)
       ∙ ap (λ o. and_then o (λ es end. Some (tuple (data_of es), end))) g
 
-  pub tuple_stops : n ≡ count → parts behind ≡ None → tagged 7 (tuple_at count parts) flat ≡ None
-  tuple_stops same g =
-      to_count ∙ only_true (n == count) (and_then (parts behind) (λ es end. Some (tuple (data_of es), end))) (eq-eqb n count same)
-      ∙ ap (λ o. and_then o (λ es end. Some (tuple (data_of es), end))) g
-
 -- no field's type is higher than the highest
 pub field_low : (fields : List Field) (i : ℕ) (f : Field) → i < length fields → f ≡ get_or fields i f → height (seen f.ty) ≤ tallest (fields_of (map seen_field fields))
 field_low [] i f less is = absurd (omega (arith, less))

@@ -1,6 +1,6 @@
 -- How the shards of a round are closed, one after the other.
 use Rattle.std.proofs.Common.{◌≡◌, ◌⊎◌, ℕ, ◌+◌, ◌-◌, ◌<◌, ◌≤◌, List, [], ◌∷◌, ◌++◌, length, drop, Bool, true, false, Option, Some, None}
-use Rattle.std.proofs.Common.{refl, sym, ap, ◌∙◌, subst, arith, inl, inr, append-nil, append_assoc, length-append, length-drop}
+use Rattle.std.proofs.Common.{refl, sym, ap, ◌∙◌, subst, arith, inl, inr, append_assoc, length-append, length-drop}
 use Rattle.std.proofs.lemmas.List.{drop-drop}
 use Rattle.std.specs.Prelude.{is_some, not, unwrap_or, IfSome, IfNone}
 use Rattle.sz_records.specs.declared.ending.Ending.{Ending}
@@ -11,22 +11,6 @@ use Rattle.sz_rounds.specs.Cuts.{ranges_of}
 use Rattle.sz_stream.specs.declared.intake.Intake.{Intake}
 use Rattle.sz_stream.specs.Intakes.{IsClosed, sum_of, IsAnswered, Closes}
 use Rattle.sz_stream.proofs.ShardLemmas.{is_closed, are_more, sum_within, ranges_append, sum-append}
-
-pub closes_none : (intake : Intake) → Closes intake intake
-closes_none intake = record {
-  sizes = [];
-  are = tt;
-  shards = sym (append-nil intake.round.shards);
-  few = λ few. few;
-  closed = (let same : intake.closed ≡ intake.closed + 0 = omega arith in same);
-  records = refl;
-  first_shard = refl;
-  passed = refl;
-  first = refl;
-  framer = refl;
-  ending = refl;
-  limit = refl;
-}
 
 -- the bytes of the records stay
 pub items_stay : {old new : Intake} → Closes old new → new.round.records.items ≡ old.round.records.items

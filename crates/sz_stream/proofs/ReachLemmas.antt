@@ -11,8 +11,6 @@ use Rattle.sz_tabs.specs.Data.{EmitDatum}
 use Rattle.sz_total.specs.States.{TotalState, declarations, emit_count, shown}
 use Rattle.sz_total.specs.Totals.{IsNew, Joins}
 use Rattle.sz_io.specs.Opened.{KeepsOtherFiles}
-use Rattle.sz_io.specs.declared.error.OutsideError.{OutsideError}
-use Rattle.sz_io.specs.declared.error.OutsideError.TheVariants as outside
 use Rattle.sz_records.specs.declared.ending.Ending.{Ending}
 use Rattle.sz_records.specs.declared.ending.Ending.TheVariants as endings
 use Rattle.sz_records.specs.Cutting.{IsCut, place_after}
@@ -31,7 +29,7 @@ use Rattle.sz_stream.specs.declared.stop.Stop.TheVariants as stops
 use Rattle.sz_stream.specs.Inputs.{full, nothing, GoesOn, RunsInput, RunsFile}
 use Rattle.sz_stream.specs.Intakes.{CanGoOn, IsFed, IsEmpty, KeepsRound, HasTaken, TakesIn, IsAnswered, Closes, moved_on, done_with, end_of}
 use Rattle.sz_stream.specs.InputRuns.{IsRunning, Reaches, CanRead, HasRound, CanRun, Fills, left_to_read, ReadsPiece, HasTakenAll, TakesAll, IsReady}
-use Rattle.sz_stream.specs.InputRuns.{Gathers, RunsRound, EndsAt, MovesOn, StopsShards, ended_so, stop_of}
+use Rattle.sz_stream.specs.InputRuns.{Gathers, RunsRound, EndsAt, MovesOn, StopsShards, ended_so}
 use Rattle.sz_stream.proofs.FedLemmas.{whole_is_over}
 use Rattle.sz_stream.proofs.RunLemmas.{starts, takes, closes, round_stops, done_place, done_records, moves_on, HasEnded, has_ended, ends_run, some_closed, none_closed}
 
@@ -253,15 +251,6 @@ module _ (job : Job) (frame : Frame) (most : ℕ) (intake : Intake) (start left 
       by (stops.Lost n) runs = record { read = r.read; over = r.over; consumed = r.consumed; at_end = r.at_end; runs = runs }
       by (stops.Damaged n) runs = record { read = r.read; over = r.over; consumed = r.consumed; at_end = r.at_end; runs = runs }
       by (stops.Limit n) runs = record { read = r.read; over = r.over; consumed = r.consumed; at_end = r.at_end; runs = runs }
-
--- a piece couldn't be read
-pub file_unread : (job : Job) (most : ℕ) (frame : Frame) (start left : Option (List ℕ)) (e : OutsideError) → RunsFile job most frame start left (Err (stop_of e))
-file_unread job most frame start left outside.Failed = tt
-file_unread job most frame start left outside.NoMemory = tt
-
-pub no_failed : (e : OutsideError) → stop_of e ≡ stops.ReadFailed → e ≡ outside.Failed
-no_failed outside.Failed is = refl
-no_failed outside.NoMemory is = absurd cc
 
 -- where no piece is wanted, a round is ready
 pub is_ready : (intake : Intake) → CanRead intake → IsAnswered intake false → IsReady intake

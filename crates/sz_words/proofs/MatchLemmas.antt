@@ -5,14 +5,11 @@ use Rattle.std.proofs.lemmas.Bool.Decides.{nat_tests}
 use Rattle.std.proofs.lemmas.List.{at_drop_more}
 use Rattle.std.specs.List.{list_all}
 use Rattle.std.specs.Prelude.{option_map, option_and_then, slice_get, unwrap_or, codes, bytes_eq, nat_le, ◌&&◌, if◌then◌else◌}
-use Rattle.clap.specs.Words.{App, app_of, first_value, found_of, matched_of, new_app, raw_values, with_rule}
-use Rattle.clap.specs.Simple.{on_top, app_of_fields}
-use Rattle.clap.specs.declared.builder.command.Command.{Command}
-use Rattle.clap.specs.declared.builder.command.Command.TheViews.{out-Command as fields_of}
+use Rattle.clap.specs.Words.{App, first_value, found_of, matched_of, raw_values, with_rule}
 use Rattle.clap.specs.declared.parser.matches.ArgMatches.{ArgMatches}
 use Rattle.clap.specs.declared.parser.matches.MatchedArg.{MatchedArg}
 use Rattle.std.specs.Borrow.{Bor}
-use Rattle.sz_words.specs.Asked.{asked_bare, asked_option, with_options}
+use Rattle.sz_words.specs.Asked.{asked_option, with_options}
 use Rattle.sz_words.specs.Parts.{Parts, option_names, parts_of, values_of}
 use Rattle.sz_words.specs.Matches.{HasParts, names_in, values_in}
 use Rattle.sz_words.specs.Settings.{Values, check_settings, command_settings, plain_settings, run_settings, stand_at_most, run_with, selftest_settings, merge_settings}
@@ -32,18 +29,6 @@ first_is m id = of (matched_of (found_of m) id)
         ≡ slice_get (unwrap_or (option_map raw_values o) []) 0
     of None = refl
     of (Some a) = first a.vals.items
-
--- the command without its arguments
-pub bare_is : (a b c d : Command) → app_of a ≡ new_app (codes "szl") → fields_of b ≡ record (fields_of a) { no_binary_name = true }
-    → fields_of c ≡ record (fields_of b) { disable_help_flag = true } → fields_of d ≡ record (fields_of c) { disable_version_flag = true }
-    → app_of d ≡ asked_bare
-bare_is a b c d new binary help version =
-    let one : app_of b ≡ on_top (λ s. record s { no_binary_name = true }) (app_of a) = ap app_of_fields binary in
-    let two : app_of c ≡ on_top (λ s. record s { disable_help_flag = true }) (app_of b) = ap app_of_fields help in
-    let three : app_of d ≡ on_top (λ s. record s { disable_version_flag = true }) (app_of c) = ap app_of_fields version in
-    three ∙ ap (on_top (λ s. record s { disable_version_flag = true })) (two
-    ∙ ap (on_top (λ s. record s { disable_help_flag = true })) (one
-    ∙ ap (on_top (λ s. record s { no_binary_name = true })) new))
 
 -- an option is added, and then those still to come
 pub one_added : (names : List (Bor (List ℕ))) (place : ℕ) (other : Bor (List ℕ)) → place < length names → (app next all : App)

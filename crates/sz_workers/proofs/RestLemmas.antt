@@ -137,10 +137,6 @@ part_holds job round place k total faults first job_is round_is less same most e
     let h = part_ends job round place k total faults less end in
     holds_one job round total first place job_is round_is h.0 h.1 (ap seen_faults same ∙ h.2) most
 
--- an attempt that died, or that faults, is a true report
-pub died_dies : (job : Job) (round : Round) (place k j : ℕ) → IsEndOf job round place k (answers.Died j) → Dies job (shards_of round) place k
-died_dies job round place k j end = record { shard = end.0; there = end.1; dies = ap dies_at end.2 }
-
 -- an attempt with another end did not die
 lives_by : (job : Job) (round : Round) (place k : ℕ) (shard : ShardData) → slice_get (shards_of round) place ≡ Some shard
     → dies_at (end_of job shard k) ≡ false → ¬ Dies job (shards_of round) place k

@@ -7,9 +7,9 @@ use Rattle.sz_book_rules.specs.Plan.{PlanData, count_of}
 use Rattle.sz_book.specs.Lanes.{LaneData}
 use Rattle.sz_book_rules.specs.declared.claim.Claim.{Claim}
 use Rattle.sz_book_rules.specs.declared.event.Event.{Event}
-use Rattle.sz_book_rules.specs.declared.event.Event.TheVariants.{Draw, Number, Died, Settle, LaneOut, LaneBack, Bad}
+use Rattle.sz_book_rules.specs.declared.event.Event.TheVariants.{Draw, Number, Settle, LaneOut, LaneBack, Bad}
 use Rattle.sz_book_rules.specs.declared.event.Reply.{Reply}
-use Rattle.sz_book_rules.specs.declared.event.Reply.TheVariants.{Ticket, Number as Numbered, Noted, Won, Late, Lane}
+use Rattle.sz_book_rules.specs.declared.event.Reply.TheVariants.{Ticket, Number as Numbered, Noted, Won, Lane}
 use Rattle.sz_book_rules.specs.declared.event.Entry.{Entry}
 use Rattle.sz_book_rules.specs.History.{entry, HasDrawn}
 use Rattle.sz_book_rules.specs.Orderly.{Phase, undrawn, asks, tries, ended, phase_of, Turns, TurnsAll}
@@ -92,17 +92,9 @@ module _ (died : ℕ → ℕ → Type 0) (faults : ℕ → Type 0) (p : PlanData
       → Leads died faults p v w c.ticket asks ended
   leads_no_number v w c h place = leads_call v w (Number c) (Numbered None) c.ticket asks ended h place tt (λ old is. (is, refl))
 
-  pub leads_died : (v w : PassData) (c : Claim) (k : ℕ) → Calls v (Died c k) Noted w → IsInPlace v → died c.shard k
-      → Leads died faults p v w c.ticket (tries k) asks
-  leads_died v w c k h place truth = leads_call v w (Died c k) Noted c.ticket (tries k) asks h place truth (λ old is. (is, refl))
-
   pub leads_won : (v w : PassData) (c : Claim) (k : ℕ) → Calls v (Settle c k) Won w → IsInPlace v → GivesEmits died faults c.shard k
       → Leads died faults p v w c.ticket (tries k) ended
   leads_won v w c k h place truth = leads_call v w (Settle c k) Won c.ticket (tries k) ended h place truth (λ old is. (is, refl))
-
-  pub leads_late : (v w : PassData) (c : Claim) (k n : ℕ) → Calls v (Settle c k) (Late n) w → IsInPlace v → GivesEmits died faults c.shard k
-      → Leads died faults p v w c.ticket (tries k) ended
-  leads_late v w c k n h place truth = leads_call v w (Settle c k) (Late n) c.ticket (tries k) ended h place truth (λ old is. (is, refl))
 
   pub leads_bad : (v w : PassData) (c : Claim) (k : ℕ) → Calls v (Bad c.shard) Noted w → IsInPlace v → v.ledger.plan ≡ p → HasDrawn c v.mine
       → faults c.shard → Leads died faults p v w c.ticket (tries k) ended

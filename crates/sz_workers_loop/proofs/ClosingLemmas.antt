@@ -82,9 +82,6 @@ once_low : (n : ℕ) → once n ≤ 1
 once_low n = dite (ℕ_discrete n 0) (λ (e : n ≡ 0). let none : once n ≡ 0 = ap (λ (b : Bool). cond b 0 1) (eq-eqb n 0 e) in omega (arith, none))
     (λ (ne : n ≢ 0). let one : once n ≡ 1 = ap (λ (b : Bool). cond b 0 1) (ne_eqb n 0 ne) in omega (arith, one))
 
-once_some : (n : ℕ) → 0 < n → once n ≡ 1
-once_some n more = ap (λ (b : Bool). cond b 0 1) (ne_eqb n 0 (omega (arith, more)))
-
 -- ---- a shard that came with a lane is in one
 
 abbrev IsInLists : ℕ → LedgerState → Type 0

@@ -249,14 +249,6 @@ all_answered the_files save names old new answer a =
 -- ---- files read to their ends
 
 module _ {F : Type 0} (the_files : files.Ghosts F) where
-  pub nothing_read : (files : F) → the_files.names files ≡ the_files.names files ++ [] → AreReadToEnd the_files files files []
-  nothing_read files same = record {
-    all_opened = same;
-    each = record { opened = []; one_each = refl; are_new = tt };
-    none_left = λ file fresh given. absurd (fresh given);
-    told = λ file fresh given. absurd (fresh given);
-  }
-
   if_both : (P Q : Type 0) (told : Option (List ℕ)) → (P → Q) → IfSome told (λ _. P) → IfSome told (λ _. Q)
   if_both P Q None step h = tt
   if_both P Q (Some bytes) step h = step h

@@ -96,10 +96,6 @@ tells_still bytes rose (Err (failure.JournalDamaged n)) h = absurd h
 tells_still bytes rose (Err failure.DiskFailed) h = absurd h
 tells_still bytes rose (Err failure.WriteFailed) h = absurd h
 
--- and no read failed
-pub no_read_failed : (bytes : List ℕ) (answer : Result (List TypeShape) Failure) → TellsTypes bytes ⊥ answer → answer ≡ Err failure.ReadFailed → ⊥
-no_read_failed bytes answer h is = subst (TellsTypes bytes ⊥) is h
-
 -- the file couldn't be read, or is too long
 pub unread_tells : (told : Option (List ℕ)) (rose : Type 0) (f : Failure) (r : ReadsText told most_file_bytes past_file rose (Err f))
     → TellsTypes r.text rose (Err f)

@@ -23,7 +23,7 @@ use Rattle.sz_words.specs.declared.error.WordsError.TheVariants as words_errors
 use Rattle.sz_words.specs.Settings.{settings_in}
 use Rattle.szl.proofs.BehindLemmas.{words_fail}
 use Rattle.szl.proofs.ResumeLemmas.{nothing_answered}
-use Rattle.szl.specs.Promise.{names_asked, IsStatusOf, GainsOutput, IsLeftAlone, GainsLine, OpensFiles, line_of}
+use Rattle.szl.specs.Promise.{IsStatusOf, GainsOutput, IsLeftAlone, GainsLine, OpensFiles, line_of}
 use Rattle.szl.specs.ResumePromise.{ByCommand, IfKnown, IsJobOutcome, IsStatusOnDisk, MeansJob, CompletesJob, KeepsJob, KeepsJournal, IfRun}
 use Rattle.szl.specs.ResumePromise.{free_status, line_on_disk, names_on_disk}
 use Rattle.szl.specs.JournalRuns.{as_memory, AnswersJob}
@@ -314,14 +314,6 @@ by_any (Some (Selftest seed records workers)) P h = h
 by_any (Some (Merge names save)) P h = h
 by_any (Some (Resume s)) P h = h
 
--- other commands open the names that they ask for
-pub other_names : (asked : Settings) → ((s : RunSettings) → asked ≡ Resume s → ⊥) → names_asked (Some asked) ≡ names_on_disk (Some asked)
-other_names (Run s) not = refl
-other_names (Check program proto) not = refl
-other_names (Selftest seed records workers) not = refl
-other_names (Merge names save) not = refl
-other_names (Resume s) not = absurd (not s refl)
-
 module _ {F K : Type 0} (the_files : files.Ghosts F) (the_disk : disks.Ghosts K) (old new : F) (disk : K) where
   -- what is answered, by command
   abbrev pub AnswersAsked : Option Settings → Result (List ℕ) Failure → Type 0
@@ -411,13 +403,6 @@ pub completes_job : {F O E K : Type 0} (the_files : files.Ghosts F) (the_out : s
     → st ≢ status.DiskFailed → CompletesJob the_files the_out the_err the_disk s st files new_files out new_out err new_err disk
 completes_job the_files the_out the_err the_disk s st files new_files out new_out err new_err disk means read written failed =
     record { means = means; status_is = completed means.outcome st means.answers read written failed }
-
--- settings that aren't those of a job that is resumed
-pub not_resumed : (settings : Settings) → ((s : RunSettings) → settings ≡ Resume s → ⊥) → (s : RunSettings) → Some settings ≡ Some (Resume s) → ⊥
-not_resumed settings not s is = not s (by is)
-  where
-    by : Some settings ≡ Some (Resume s) → settings ≡ Resume s
-    by e = cc
 
 -- which failure a status is told for
 of_read : (f : Failure) → status_of f ≡ status.ReadFailed → f ≡ failure.ReadFailed
