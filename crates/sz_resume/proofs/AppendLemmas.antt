@@ -24,11 +24,11 @@ use Rattle.sz_resume.specs.Standing.{Source, Stands}
 use Rattle.sz_resume.specs.Stops.{IsLeft, LeavesRounds, SpellsMore}
 use Rattle.sz_resume.specs.Runs.{IsJournalOf, HasJournal}
 use Rattle.sz_resume.specs.Entries.{done_of, IsNext}
-use Rattle.sz_resume.specs.Turns.{AllStand, IsBehind, HasNext, AddsRound}
+use Rattle.sz_resume.specs.Turns.{AllStand, IsAfter, HasNext, AddsRound}
 use Rattle.sz_resume.proofs.NumberLemmas.{are_more}
 use Rattle.sz_resume.proofs.NextLemmas as rounds
 use Rattle.sz_resume.proofs.WayLemmas.{spelled_at}
-use Rattle.sz_resume.proofs.TurnLemmas.{found_stands, stands_more, stand_more, fresh_of, goes_on_behind, goes_behind}
+use Rattle.sz_resume.proofs.TurnLemmas.{found_stands, stands_more, stand_more, fresh_of, goes_on_behind, goes_after}
 
 module _ {job : Job} {before : List RoundEntry} {old : Intake} (h : HasNext job before old) where
   pub is_round : IsRound old.round
@@ -60,11 +60,11 @@ module _ {job : Job} {before : List RoundEntry} {old : Intake} (h : HasNext job 
     small = (rounds.is_small h.fresh h.some is next, tt);
     further = rounds.further h.fresh h.some is next;
     rises = rounds.rises h.fresh h.some is next;
-    goes_on = λ frame most start left b. goes_behind job before all old es n round is next all_are h.some frame most start left b;
+    goes_on = λ frame most start left b. goes_after job before all old es n round is next all_are h.some frame most start left b;
   }
 
   -- what stands goes on to stand
-  pub all_stand : (source : Source) (start left : Option (List ℕ)) → IsBehind job source.frame source.most before old start left
+  pub all_stand : (source : Source) (start left : Option (List ℕ)) → IsAfter job source.frame source.most before old start left
       → start ≡ Some (drop (last_progress before).bytes source.bytes) → AllStand job source before → AllStand job source (before ++ round ∷ [])
   all_stand source start left b told all records ending sizes cut are =
       stand_more job source before all records ending sizes cut are (fresh_of b)
@@ -150,7 +150,7 @@ module _ {job : Job} {before : List RoundEntry} {old : Intake} (h : HasNext job 
           → ((name : JobBytes) (decls : List Declaration) (held : List ℕ) → Rests bytes may_leave held → IsOf name journal
           → Spells name decls held (rounds_of journal) → AreRounds name decls (rounds_of journal ++ round ∷ []) → are_told may_leave ≡ true
           → LeavesOnly time left_since disk after (SpellsOneOf name decls (rounds_of journal) round))
-          → IsBehind job source.frame source.most (rounds_of journal) old start left
+          → IsAfter job source.frame source.most (rounds_of journal) old start left
           → start ≡ Some (drop (last_progress (rounds_of journal)).bytes source.bytes) → Stands name job source held (rounds_of journal)
           → Rests bytes may_leave held → are_told may_leave ≡ true → IsJournalOf name job journal bytes
           → LeavesRounds time left_since disk after name job source held (rounds_of journal) (round ∷ [])
@@ -172,7 +172,7 @@ module _ {job : Job} {before : List RoundEntry} {old : Intake} (h : HasNext job 
           all_then : AllStand job source (rounds_of journal ++ round ∷ [])
           all_then =
               subst (λ rs. AllStand job source (rs ++ round ∷ [])) (sym same)
-              (all_stand source start left (subst (λ rs. IsBehind job source.frame source.most rs old start left) same b)
+              (all_stand source start left (subst (λ rs. IsAfter job source.frame source.most rs old start left) same b)
               (subst (λ rs. start ≡ Some (drop (last_progress rs).bytes source.bytes)) same told) (subst (AllStand job source) same all_now))
 
           left_so : (image : List ℕ) → SpellsOneOf name (all_tables job.compiled) (rounds_of journal) round image

@@ -1,4 +1,4 @@
--- What is known of bytes that were read behind what of an input is done, and of those of them behind some of their records.
+-- What is known of bytes that were read after what of an input is done, and of those of them after some of their records.
 use Rattle.std.proofs.Common.{◌≡◌, ℕ, ◌+◌, ◌-◌, ◌^◌, ◌<◌, ◌≤◌, List, [], ◌++◌, length, drop, Bool, true, false, Option, Some, None}
 use Rattle.std.proofs.Common.{refl, sym, ap, ◌∙◌, subst, arith, append-nil, length-append, length-drop}
 use Rattle.std.proofs.lemmas.List.{drop-append-le}
@@ -56,7 +56,7 @@ module _ (done : Done) (frame : Frame) (framer : FramerData) (read : List ℕ) (
   -- so many of the records lead to this place, in each input that goes on so
   module _ (count place : ℕ) (few : count ≤ length given)
       (leads : (input : List ℕ) → GoesOn read over input → place ≡ place_after frame full done.bytes done.records input count) where
-    -- behind them the input goes on as it is cut
+    -- after them the input goes on as it is cut
     pub behind : (known : Option Ending) (fed : IsFed done frame framer known read over given) (input : List ℕ) (on : GoesOn read over input)
         → GoesOnBehind frame full done.bytes done.records input (given ++ (cuts_on known fed input on).more) (cuts_on known fed input on).ending count
     behind known fed input on =
@@ -80,7 +80,7 @@ module _ (done : Done) (frame : Frame) (framer : FramerData) (read : List ℕ) (
       pub place_low : done.bytes ≤ 2 ^ 40 → place ≤ 2 ^ 40
       place_low low = let b = behind known fed read all_on in let in_input = b.in_input low in omega (arith, in_input, leads read all_on)
 
-      -- what stands behind the place
+      -- what stands after the place
       rest_is : (input more : List ℕ) → GoesOn read over input → input ≡ read ++ more
           → drop (place_after frame full done.bytes done.records input count - done.bytes) input ≡ drop (place - done.bytes) read ++ more
       rest_is input more on is =
@@ -94,7 +94,7 @@ module _ (done : Done) (frame : Frame) (framer : FramerData) (read : List ℕ) (
       later_place input more on is j =
           let b = behind known fed input on in b.later j ∙ place_as frame full j (sym (leads input on)) refl (rest_is input more on is)
 
-      -- the cut of what stands behind them
+      -- the cut of what stands after them
       later_cut : (input more : List ℕ) → GoesOn read over input → input ≡ read ++ more → (rs : List (List ℕ)) (e : Ending)
           → IsCut frame full done.bytes done.records input (given ++ rs) e
           → IsCut frame full place (done.records + count) (drop (place - done.bytes) read ++ more) (drop count given ++ rs) e
@@ -109,7 +109,7 @@ module _ (done : Done) (frame : Frame) (framer : FramerData) (read : List ℕ) (
       onto : (more : List ℕ) → (over ≡ true → more ≡ []) → GoesOn read over (read ++ more)
       onto more ends = record { more = more; begins = refl; ends = ends }
 
-      -- what is known of bytes behind these records
+      -- what is known of bytes after these records
       pub fed_on : (known : Option Ending) → IsFed done frame framer known read over given
           → IsFed next frame framer known (drop k read) over (drop count given)
       fed_on None fed = (

@@ -81,7 +81,7 @@ front_has ds (f ∷ front) s later h = (h.0, front_has ds front s later h.1)
 abbrev pub nothing : List Declaration → SavedState
 nothing decls = state_of_emits 0 decls []
 
--- The states of the first rounds were joined behind one that holds nothing, and the states of the others are to come
+-- The states of the first rounds were joined after one that holds nothing, and the states of the others are to come
 pub record HasJoined (decls : List Declaration) (groups states left : List SavedState) : Type 0 where
   pub front : List SavedState
   pub are : AreOf groups (nothing decls ∷ front)

@@ -1,4 +1,4 @@
--- The round at hand behind the rounds of a journal, and what is known behind it.
+-- The round at hand after the rounds of a journal, and what is known after it.
 use Rattle.std.proofs.Common.{◌≡◌, ℕ, suc, ◌+◌, ◌-◌, ◌*◌, ◌^◌, ◌<◌, ◌≤◌, List, [], ◌∷◌, ◌++◌, length, drop, get_or, Bool, Some}
 use Rattle.std.proofs.Common.{refl, sym, ap, ◌∙◌, subst, arith, length-append, length-drop}
 use Rattle.std.proofs.lemmas.List.{nil_from_length}
@@ -149,7 +149,7 @@ module _ {done : Done} {job : Job} {frame : Frame} {most : ℕ} {old : Intake} {
         };
       }
 
-      -- behind the round all begins anew
+      -- after the round all begins anew
       pub starts_anew : IsRunning next job frame most (moved_on n old) [] (drop k read) over
       starts_anew = record {
         can = record {

@@ -8,7 +8,7 @@ use Rattle.sz_journal_format.specs.Rounds.{no_progress, progress_of, progress_af
 use Rattle.sz_journal_format.proofs.FollowLemmas.{next_told}
 use Rattle.sz_resume.specs.Stops.{AreSmall}
 
--- where the job has come behind rounds and others after them
+-- where the job has come after rounds and others after them
 pub progress-append : (progress : Progress) (rounds more : List RoundEntry)
     → progress_after progress (rounds ++ more) ≡ progress_after (progress_after progress rounds) more
 progress-append progress [] more = refl
@@ -19,7 +19,7 @@ pub small-append : (progress : Progress) (rounds more : List RoundEntry) → Are
 small-append progress [] more small later = later
 small-append progress (round ∷ rounds) more small later = (small.0, small-append (progress_of round) rounds more small.1 later)
 
--- a small round behind small ones
+-- a small round after small ones
 pub small_more : (first rounds added : List RoundEntry) (round : RoundEntry) → rounds ≡ first ++ added → AreSmall (last_progress first) added
     → AreSmall (last_progress rounds) (round ∷ []) → AreSmall (last_progress first) (added ++ round ∷ [])
 small_more first rounds added round is small one =

@@ -1,4 +1,4 @@
--- How far a job has come behind its rounds, and the numbers of the round at hand.
+-- How far a job has come after its rounds, and the numbers of the round at hand.
 use Rattle.std.proofs.Common.{◌≡◌, ◌∙◌, ℕ, ◌+◌, ◌-◌, ◌*◌, ◌^◌, ◌<◌, ◌≤◌, List, [], ◌∷◌, length, sym, ap, subst, arith, mul_comm}
 use Rattle.sz_types.specs.Tables.{Declaration}
 use Rattle.sz_tabs.specs.Data.{EmitDatum}
@@ -21,7 +21,7 @@ use Rattle.sz_stream.proofs.RunLemmas as running
 use Rattle.sz_resume.specs.Entries.{done_of}
 use Rattle.sz_resume.proofs.NumberLemmas.{product}
 
--- ---- behind rounds
+-- ---- after rounds
 
 -- a job may have come so far
 record IsFar (name : JobBytes) (progress : Progress) : Type 0 where
@@ -46,7 +46,7 @@ module _ (name : JobBytes) (decls : List Declaration) where
   far_of rounds are =
       far_after no_progress rounds are.follow (record { shards = omega arith; records = omega arith; bytes = omega arith; passed = omega arith })
 
-  -- the input can be run on behind it
+  -- the input can be run on after it
   pub can_go_on : (rounds : List RoundEntry) (progress : Progress) → progress ≡ last_progress rounds → AreRounds name decls rounds
       → CanGoOn (done_of progress)
   can_go_on rounds progress is are =

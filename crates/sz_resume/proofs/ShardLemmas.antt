@@ -1,4 +1,4 @@
--- Shards that records are cut into, and those of them behind others.
+-- Shards that records are cut into, and those of them after others.
 use Rattle.std.proofs.Common.{◌≡◌, ℕ, zero, suc, ◌+◌, ◌≤◌, List, [], ◌∷◌, ◌++◌, length, take, drop, refl, sym, ap, ◌∙◌, subst, arith, length-append, length-drop}
 use Rattle.std.proofs.lemmas.List.{drop-drop}
 use Rattle.sz_records.specs.Shards.{AreShards}
@@ -6,8 +6,8 @@ use Rattle.sz_attempt.specs.Shards.{ShardData}
 use Rattle.sz_rounds.specs.Outcomes.{all_records}
 use Rattle.sz_rounds.specs.Cuts.{cut_into}
 
--- behind so many shards with so many records stand these
-pub record AreBehind (most number first : ℕ) (records : List (List ℕ)) (sizes : List ℕ) (shards count : ℕ) (back : List ShardData) : Type 0 where
+-- after so many shards with so many records stand these
+pub record AreAfter (most number first : ℕ) (records : List (List ℕ)) (sizes : List ℕ) (shards count : ℕ) (back : List ShardData) : Type 0 where
   pub few : count ≤ length records
   pub are : AreShards most (drop count records) (drop shards sizes)
   pub is : back ≡ cut_into (number + shards) (first + count) (drop count records) (drop shards sizes)
@@ -19,10 +19,10 @@ length_taken (suc n) [] le = absurd (omega arith)
 length_taken (suc n) (x ∷ xs) le = ap suc (length_taken n xs (omega arith))
 
 -- a shard of so many records, and then others
-one_behind : (most number first n : ℕ) (records : List (List ℕ)) (ns : List ℕ) (shards count : ℕ) (back : List ShardData) → n ≤ length records
-    → AreBehind most (suc number) (first + n) (drop n records) ns shards count back
-    → AreBehind most number first records (n ∷ ns) (suc shards) (n + count) back
-one_behind most number first n records ns shards count back within h =
+one_after : (most number first n : ℕ) (records : List (List ℕ)) (ns : List ℕ) (shards count : ℕ) (back : List ShardData) → n ≤ length records
+    → AreAfter most (suc number) (first + n) (drop n records) ns shards count back
+    → AreAfter most number first records (n ∷ ns) (suc shards) (n + count) back
+one_after most number first n records ns shards count back within h =
     let later = drop-drop count n records in
     let a : suc number + shards ≡ number + suc shards = omega arith in
     let b : first + n + count ≡ first + (n + count) = omega arith in
@@ -34,10 +34,10 @@ one_behind most number first n records ns shards count back within h =
           ∙ ap (λ rs. cut_into (number + suc shards) (first + (n + count)) rs (drop shards ns)) later;
     }
 
-pub are_behind : (most number first : ℕ) (records : List (List ℕ)) (sizes : List ℕ) (front back : List ShardData) → AreShards most records sizes
+pub are_after : (most number first : ℕ) (records : List (List ℕ)) (sizes : List ℕ) (front back : List ShardData) → AreShards most records sizes
     → cut_into number first records sizes ≡ front ++ back
-    → AreBehind most number first records sizes (length front) (length (all_records front)) back
-are_behind most number first records sizes [] back are is =
+    → AreAfter most number first records sizes (length front) (length (all_records front)) back
+are_after most number first records sizes [] back are is =
     let a : number ≡ number + 0 = omega arith in
     let b : first ≡ first + 0 = omega arith in
     record {
@@ -45,11 +45,11 @@ are_behind most number first records sizes [] back are is =
       are = are;
       is = sym is ∙ ap (λ k. cut_into k first records sizes) a ∙ ap (λ k. cut_into (number + 0) k records sizes) b;
     }
-are_behind most number first records [] (s ∷ front) back are is = absurd (cc)
-are_behind most number first records (n ∷ ns) (s ∷ front) back are is =
-    subst (λ count. AreBehind most number first records (n ∷ ns) (suc (length front)) count back) (sym long)
-    (one_behind most number first n records ns (length front) (length (all_records front)) back are.0.within
-    (are_behind most (suc number) (first + n) (drop n records) ns front back are.1 parts.1))
+are_after most number first records [] (s ∷ front) back are is = absurd (cc)
+are_after most number first records (n ∷ ns) (s ∷ front) back are is =
+    subst (λ count. AreAfter most number first records (n ∷ ns) (suc (length front)) count back) (sym long)
+    (one_after most number first n records ns (length front) (length (all_records front)) back are.0.within
+    (are_after most (suc number) (first + n) (drop n records) ns front back are.1 parts.1))
   where
     this : ShardData
     this = record { number = number; first = first; records = take n records }

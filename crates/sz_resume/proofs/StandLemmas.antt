@@ -20,10 +20,10 @@ use Rattle.sz_journal_format.specs.Rounds.{no_progress, progress_of, progress_af
 use Rattle.sz_stream.specs.Inputs.{full}
 use Rattle.sz_resume.specs.Standing.{Source, place_in, IsRoundOf, AreRoundsOf}
 use Rattle.sz_resume.specs.Entries.{AreSavedOf, all_parts}
-use Rattle.sz_resume.proofs.ShardLemmas.{are_behind}
+use Rattle.sz_resume.proofs.ShardLemmas.{are_after}
 
 module _ (job : Job) (source : Source) where
-  -- so far has the job come, and these are the shards behind
+  -- so far has the job come, and these are the shards after
   pub record IsAt (records : List (List ℕ)) (sizes : List ℕ) (progress : Progress) (left : List ShardData) : Type 0 where
     pub few : progress.records ≤ length records
     pub are : AreShards source.most (drop progress.records records) (drop progress.shards sizes)
@@ -38,7 +38,7 @@ module _ (job : Job) (source : Source) where
     round_on : (progress : Progress) (front back : List ShardData) (round : RoundEntry) → IsAt records sizes progress (front ++ back)
         → IsRoundOf job source progress front round → IsAt records sizes (progress_of round) back
     round_on progress front back round at one =
-        let h = are_behind source.most progress.shards (progress.records + 1) (drop progress.records records) (drop progress.shards sizes) front back at.are
+        let h = are_after source.most progress.shards (progress.records + 1) (drop progress.records records) (drop progress.shards sizes) front back at.are
         (sym at.is) in
         let n = length front in
         let m = length (all_records front) in
@@ -61,7 +61,7 @@ module _ (job : Job) (source : Source) where
           place = one.next_byte;
         }
 
-    -- behind all rounds
+    -- after all rounds
     pub rounds_on : (progress : Progress) (shards left : List ShardData) (rounds : List RoundEntry) → IsAt records sizes progress shards
         → AreRoundsOf job source progress shards rounds left → IsAt records sizes (progress_after progress rounds) left
     rounds_on progress shards left [] at are = subst (IsAt records sizes progress) are at
@@ -108,7 +108,7 @@ module _ (job : Job) (source : Source) where
   one_more progress shards left front back (first ∷ rounds) round are is one =
       (are.0, are.1, are.2, are.3, one_more (progress_of first) are.1 left front back rounds round are.4 is one)
 
-  -- what comes of all shards is what comes of those behind the rounds, after the emits that the rounds have
+  -- what comes of all shards is what comes of those after the rounds, after the emits that the rounds have
   pub record Gives (progress : Progress) (shards left : List ShardData) (rounds : List RoundEntry) : Type 0 where
     pub parts : List (List EmitDatum)
     pub saved : AreSavedOf (all_tables job.compiled) rounds parts

@@ -24,7 +24,7 @@ drop_front : (xs ys : List ℕ) → drop (length xs) (xs ++ ys) ≡ ys
 drop_front [] ys = refl
 drop_front (x ∷ xs) ys = drop_front xs ys
 
--- what is left behind the bytes that were dropped
+-- what is left after the bytes that were dropped
 pub left_then : (before after : Option (List ℕ)) (bytes : ℕ) (input : List ℕ) → Skips before after bytes true → before ≡ Some input
     → after ≡ Some (drop bytes input)
 left_then None after bytes input skips is = absurd (cc)
@@ -51,8 +51,8 @@ module _ {before after : Option (List ℕ)} {done : Done} {all : Bool} {now roun
   all_dropped : Skips before after done.bytes true
   all_dropped = subst (Skips before after done.bytes) test skips
 
-  pub behind_dropped : after ≡ Some (drop (last_progress rounds).bytes input)
-  behind_dropped = left_then before after done.bytes input all_dropped is ∙ ap (λ n. Some (drop n input)) place_is
+  pub after_dropped : after ≡ Some (drop (last_progress rounds).bytes input)
+  after_dropped = left_then before after done.bytes input all_dropped is ∙ ap (λ n. Some (drop n input)) place_is
 
   pub long_input : (last_progress rounds).bytes ≤ length input
   long_input = let long = long_enough before after done.bytes input all_dropped is in omega (arith, long, place_is)

@@ -43,7 +43,7 @@ use Rattle.sz_resume.specs.Standing.{Source, AreRoundsOf, Stands, IsFound}
 use Rattle.sz_resume.specs.Stops.{HoldsAll}
 use Rattle.sz_resume.specs.Runs.{EndsJob, RunsSource}
 use Rattle.sz_resume.specs.Entries.{done_of, IsNext, all_parts, AreSavedOf}
-use Rattle.sz_resume.specs.Turns.{AllStand, IsFresh, IsBehind, rest_from, StopsHalt, EndsSo}
+use Rattle.sz_resume.specs.Turns.{AllStand, IsFresh, IsAfter, rest_from, StopsHalt, EndsSo}
 use Rattle.sz_resume.proofs.NumberLemmas.{progress-append}
 use Rattle.sz_resume.proofs.StandLemmas.{IsAt, at_start, rounds_on, all_bounded, one_more, gives}
 use Rattle.sz_resume.proofs.NextLemmas.{BeginsWith, IsOver, left_begins, none_left, starts_anew, within_read, place_on, done_is, is_round_of, so_many_more}
@@ -237,11 +237,11 @@ module _ (job : Job) (source : Source) where
 -- ---- from round to round
 
 module _ {job : Job} {frame : Frame} {most : ℕ} {rounds : List RoundEntry} {intake : Intake} {start left : Option (List ℕ)} where
-  pub fresh_of : (b : IsBehind job frame most rounds intake start left)
+  pub fresh_of : (b : IsAfter job frame most rounds intake start left)
       → IsFresh (done_of (last_progress rounds)) job frame most intake b.emits b.reached.read b.reached.over
   fresh_of b = record { running = b.reached.running; first = b.first; number = b.number }
 
-  pub goes_on_behind : (b : IsBehind job frame most rounds intake start left) → (rest : List ℕ) → start ≡ Some rest
+  pub goes_on_behind : (b : IsAfter job frame most rounds intake start left) → (rest : List ℕ) → start ≡ Some rest
       → GoesOn b.reached.read b.reached.over rest
   goes_on_behind b rest is = goes_on_told start left b.reached.read rest b.reached.over b.reached.consumed b.reached.at_end is
 
@@ -251,9 +251,9 @@ module _ (job : Job) (rounds all : List RoundEntry) (old : Intake) (es : List Em
   last_is : last_progress all ≡ progress_of round
   last_is = ap last_progress all_are ∙ progress-append no_progress rounds (round ∷ [])
 
-  pub goes_behind : (some : 0 < length old.round.shards) (frame : Frame) (most : ℕ) (start left : Option (List ℕ)) → IsBehind job frame most rounds old start left
-      → IsBehind job frame most all (moved_on n old) (rest_from (round.next_byte - (last_progress rounds).bytes) start) left
-  goes_behind some frame most start left b =
+  pub goes_after : (some : 0 < length old.round.shards) (frame : Frame) (most : ℕ) (start left : Option (List ℕ)) → IsAfter job frame most rounds old start left
+      → IsAfter job frame most all (moved_on n old) (rest_from (round.next_byte - (last_progress rounds).bytes) start) left
+  goes_after some frame most start left b =
       let f = fresh_of b in
       let P = last_progress rounds in
       let anew = starts_anew f some is in

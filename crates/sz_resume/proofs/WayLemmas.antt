@@ -36,7 +36,7 @@ use Rattle.sz_resume.specs.Standing.{Source, Stands}
 use Rattle.sz_resume.specs.Stops.{LeavesRounds, HoldsAll}
 use Rattle.sz_resume.specs.Runs.{IsJournalOf, RunsSource}
 use Rattle.sz_resume.specs.Entries.{done_of}
-use Rattle.sz_resume.specs.Turns.{AllStand, IsBehind, HasNext, rest_from, AddsRound, StopsHalt, EndsSo}
+use Rattle.sz_resume.specs.Turns.{AllStand, IsAfter, HasNext, rest_from, AddsRound, StopsHalt, EndsSo}
 use Rattle.sz_resume.proofs.NumberLemmas.{progress-append}
 use Rattle.sz_resume.proofs.LeaveLemmas.{not_empty, leaves_rounds}
 use Rattle.sz_resume.proofs.TurnLemmas.{rest_twice, fresh_of, goes_on_behind, halts_source, ends_source, holds_all}
@@ -45,7 +45,7 @@ rest_all : (k : ℕ) (left : Option (List ℕ)) → rest_from (k - k) left ≡ l
 rest_all k None = refl
 rest_all k (Some bytes) = let none : k - k ≡ 0 = omega arith in ap (λ n. Some (drop n bytes)) none
 
--- what is left behind so many bytes, where more are left from an earlier place on
+-- what is left after so many bytes, where more are left from an earlier place on
 pub rest_told : (left : Option (List ℕ)) (input : List ℕ) (from to : ℕ) → from ≤ to → left ≡ Some (drop from input)
     → rest_from (to - from) left ≡ Some (drop to input)
 rest_told left input from to le told =
@@ -65,9 +65,9 @@ module _ {job : Job} {frame : Frame} {most : ℕ} where
   -- before anything is read
   pub way_starts : (rounds : List RoundEntry) (done : Done) (intake : Intake) (left : Option (List ℕ)) → 1 ≤ most → done ≡ done_of (last_progress rounds)
       → CanGoOn done → done.passed ≤ job.skip → IsEmpty frame most done intake
-      → IsBehind job frame most rounds intake (rest_from ((last_progress rounds).bytes - (last_progress rounds).bytes) left) left
+      → IsAfter job frame most rounds intake (rest_from ((last_progress rounds).bytes - (last_progress rounds).bytes) left) left
   way_starts rounds done intake left low is can few empty =
-      subst (λ start. IsBehind job frame most rounds intake start left) (sym (rest_all (last_progress rounds).bytes left)) (record {
+      subst (λ start. IsAfter job frame most rounds intake start left) (sym (rest_all (last_progress rounds).bytes left)) (record {
         emits = [];
         reached = subst (λ d. Reaches d job frame most intake [] left left) is (record {
           read = [];
@@ -80,7 +80,7 @@ module _ {job : Job} {frame : Frame} {most : ℕ} where
         number = ap (λ (r : Round). r.first_shard) empty.round ∙ ap (λ (d : Done). d.shards) is;
       })
 
-  module _ {rounds : List RoundEntry} {old : Intake} {start left : Option (List ℕ)} (b : IsBehind job frame most rounds old start left) where
+  module _ {rounds : List RoundEntry} {old : Intake} {start left : Option (List ℕ)} (b : IsAfter job frame most rounds old start left) where
     pub can_read : CanRead old
     can_read = record {
       done = done_of (last_progress rounds);
@@ -94,7 +94,7 @@ module _ {job : Job} {frame : Frame} {most : ℕ} where
     }
 
     pub way_filled : (new : Intake) (after : Option (List ℕ)) → Fills old new left after → new.first ≡ old.first
-        → new.round.first_shard ≡ old.round.first_shard → IsBehind job frame most rounds new start after
+        → new.round.first_shard ≡ old.round.first_shard → IsAfter job frame most rounds new start after
     way_filled new after fills first number = record {
       emits = b.emits;
       reached = fills (done_of (last_progress rounds)) job frame most b.emits start b.reached;
@@ -188,13 +188,13 @@ module _ {job : Job} {frame : Frame} {most : ℕ} where
       way_rises from le = omega (arith, le, last_bytes, adds.rises)
 
       pub way_on : (from : ℕ) → from ≤ (last_progress rounds).bytes → start ≡ rest_from ((last_progress rounds).bytes - from) first
-          → IsBehind job frame most all new (rest_from ((last_progress all).bytes - from) first) left
+          → IsAfter job frame most all new (rest_from ((last_progress all).bytes - from) first) left
       way_on from le is =
           let k = adds.round.next_byte - (last_progress rounds).bytes in
           let same : (last_progress rounds).bytes - from + k ≡ (last_progress all).bytes - from = omega (arith, le, last_bytes, adds.rises) in
           let starts : rest_from k start ≡ rest_from ((last_progress all).bytes - from) first =
           ap (rest_from k) is ∙ rest_twice k ((last_progress rounds).bytes - from) first ∙ ap (λ n. rest_from n first) same in
-          subst (λ s. IsBehind job frame most all new s left) starts (adds.goes_on frame most start left b)
+          subst (λ s. IsAfter job frame most all new s left) starts (adds.goes_on frame most start left b)
 
 -- what an answer holds
 pub on_any : {T E : Type 0} (r : Result T E) (P : Type 0) → P → OnOk r P

@@ -1,4 +1,4 @@
--- What is done behind the rounds of a journal, the entry of a round that was run, and what rounds hold together.
+-- What is done after the rounds of a journal, the entry of a round that was run, and what rounds hold together.
 use Rattle.std.specs.Prelude.{◌≡◌, ℕ, ◌*◌, ⊤, List, [], ◌∷◌, ◌++◌}
 use Rattle.sz_types.specs.Tables.{Declaration}
 use Rattle.sz_mean.specs.Marked.{all_tables}

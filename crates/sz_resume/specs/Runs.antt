@@ -1,4 +1,4 @@
--- What running a job on behind its journal gives.
+-- What running a job on after its journal gives.
 use Rattle.std.specs.Prelude.{◌≡◌, ℕ, ◌*◌, ◌<◌, ◌≤◌, ⊤, Bool, true, false, List, length, Option, IfSome, Result, Ok, Err}
 use Rattle.std.specs.Io.KnownBytes.{Consumes, IsAtEnd}
 use Rattle.sz_mean.specs.Marked.{all_tables}

@@ -29,7 +29,7 @@ pub record Source : Type 0 where
 abbrev pub place_in : Source → ℕ → ℕ
 place_in source count = place_after source.frame full 0 0 source.bytes count
 
--- The round is that of these shards, behind what of the input is done. None of them decides. The round has how far the job has come with them,
+-- The round is that of these shards, after what of the input is done. None of them decides. The round has how far the job has come with them,
 -- and what is saved of all emits of those of their records that don't fault; its bound is the ticks of its records
 pub record IsRoundOf (job : Job) (source : Source) (before : Progress) (shards : List ShardData) (round : RoundEntry) : Type 0 where
   pub emits : List EmitDatum
@@ -41,7 +41,7 @@ pub record IsRoundOf (job : Job) (source : Source) (before : Progress) (shards :
   pub passed_so_far : round.passed ≡ before.passed + passed
   pub saved : round.saved ≡ state_of_emits (length (all_records shards) * job.budget) (all_tables job.compiled) emits
 
--- the rounds are those of the shards in front, whole shards each and in order, behind what of the input is done; and these shards are left
+-- the rounds are those of the shards in front, whole shards each and in order, after what of the input is done; and these shards are left
 abbrev pub AreRoundsOf : Job → Source → Progress → List ShardData → List RoundEntry → List ShardData → Type 0
 AreRoundsOf job source before shards [] left = shards ≡ left
 AreRoundsOf job source before shards (round ∷ rounds) left =

@@ -25,7 +25,7 @@ IsLeft name job source held before added image =
     (IsEmpty held × IsEmpty image)
     ⊎ ((some : List RoundEntry) × AreFirst some added × Stands name job source image (before ++ some))
 
--- each round has at most 4,096 shards, behind how far the job has come
+-- each round has at most 4,096 shards, after how far the job has come
 abbrev pub AreSmall : Progress → List RoundEntry → Type 0
 AreSmall before [] = ⊤
 AreSmall before (round ∷ rounds) = (round.next_shard ≤ before.shards + 4096) × AreSmall (progress_of round) rounds

@@ -32,21 +32,21 @@ AllStand job source rounds = (records : List (List ℕ)) (ending : Ending) (size
     → IsCut source.frame full 0 0 source.bytes records ending → AreShards source.most records sizes
     → (left : List ShardData) × AreRoundsOf job source no_progress (cut_into 0 1 records sizes) rounds left
 
--- all records that were given behind what of the input is done are at hand, and the shards at hand are the next ones
+-- all records that were given after what of the input is done are at hand, and the shards at hand are the next ones
 pub record IsFresh (done : Done) (job : Job) (frame : Frame) (most : ℕ) (intake : Intake) (emits : List EmitDatum) (read : List ℕ) (over : Bool)
     : Type 0 where
   pub running : IsRunning done job frame most intake emits read over
   pub first : intake.first ≡ done.records + 1
   pub number : intake.round.first_shard ≡ done.shards
 
--- the same behind rounds, where bytes were read from what was left at the start to what is left now
-pub record IsBehind (job : Job) (frame : Frame) (most : ℕ) (rounds : List RoundEntry) (intake : Intake) (start left : Option (List ℕ)) : Type 0 where
+-- the same after rounds, where bytes were read from what was left at the start to what is left now
+pub record IsAfter (job : Job) (frame : Frame) (most : ℕ) (rounds : List RoundEntry) (intake : Intake) (start left : Option (List ℕ)) : Type 0 where
   pub emits : List EmitDatum
   pub reached : Reaches (done_of (last_progress rounds)) job frame most intake emits start left
   pub first : intake.first ≡ (last_progress rounds).records + 1
   pub number : intake.round.first_shard ≡ (last_progress rounds).shards
 
--- a round can be run behind the others
+-- a round can be run after the others
 pub record HasNext (job : Job) (rounds : List RoundEntry) (intake : Intake) : Type 0 where
   pub frame : Frame
   pub most : ℕ
@@ -56,7 +56,7 @@ pub record HasNext (job : Job) (rounds : List RoundEntry) (intake : Intake) : Ty
   pub fresh : IsFresh (done_of (last_progress rounds)) job frame most intake emits read over
   pub some : 0 < length intake.round.shards
 
--- what is left behind so many bytes
+-- what is left after so many bytes
 abbrev pub rest_from : ℕ → Option (List ℕ) → Option (List ℕ)
 rest_from count left = option_map (drop count) left
 
@@ -67,8 +67,8 @@ pub record AddsRound (job : Job) (rounds all : List RoundEntry) (old new : Intak
   pub small : AreSmall (last_progress rounds) (round ∷ [])
   pub further : old.first < new.first
   pub rises : (last_progress rounds).bytes ≤ round.next_byte
-  pub goes_on : (frame : Frame) (most : ℕ) (start left : Option (List ℕ)) → IsBehind job frame most rounds old start left
-      → IsBehind job frame most all new (rest_from (round.next_byte - (last_progress rounds).bytes) start) left
+  pub goes_on : (frame : Frame) (most : ℕ) (start left : Option (List ℕ)) → IsAfter job frame most rounds old start left
+      → IsAfter job frame most all new (rest_from (round.next_byte - (last_progress rounds).bytes) start) left
 
 -- what comes of shards ends a run so
 abbrev pub StopsHalt : ShardsEnd → Halt → Type 0
@@ -76,7 +76,7 @@ StopsHalt end (Stopped stop) = StopsShards end stop
 StopsHalt end (Short gate) = ⊥
 StopsHalt end DiskFailed = ⊤
 
--- the answer is that of records that end so behind these rounds
+-- the answer is that of records that end so after these rounds
 abbrev pub EndsSo : List Declaration → List RoundEntry → Ending → Result SavedState Halt → Type 0
 EndsSo decls rounds ending (Ok all) = (ending ≡ endings.Whole) × HoldsRounds decls rounds all
 EndsSo decls rounds ending (Err (Stopped stops.NoMemory)) = ⊤

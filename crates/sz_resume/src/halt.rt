@@ -6,12 +6,12 @@ use std::alloc::AllocError;
 use sz_io::{Failed, OutsideError};
 use sz_stream::Stop;
 
-/// Why a job that goes on behind its journal ends without the tables of all its records.
+/// Why a job that goes on after its journal ends without the tables of all its records.
 #[derive(Drop)]
 pub enum Halt {
     /// The run of the input ends so.
     Stopped(Stop),
-    /// The input is shorter than the rounds of the journal. This is the gate behind which the last of them stands.
+    /// The input is shorter than the rounds of the journal. This is the gate after which the last of them stands.
     Short(u64),
     /// The disk failed, and its count of faults rose.
     DiskFailed,

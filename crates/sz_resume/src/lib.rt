@@ -1,4 +1,4 @@
-//! A job that goes on behind the rounds of its journal, and appends each further round to it.
+//! A job that goes on after the rounds of its journal, and appends each further round to it.
 #![tactic(auto)]
 
 mod halt;

@@ -1,4 +1,4 @@
-//! An input that is run on behind the rounds of a journal.
+//! An input that is run on after the rounds of a journal.
 ghost use Rattle.std.specs.Prelude.{◌≡◌, ◌<◌, ◌≤◌, ◌++◌, ℕ, List, drop, length, Some, Option, true, IfSome, IfErr, OnOk, IsSome, IsTrue, IsErrOf};
 ghost use Rattle.std.specs.Io.KnownBytes.{IsAtEnd};
 ghost use Rattle.sz_io.specs.Rose.{Rose};
@@ -19,12 +19,12 @@ ghost use Rattle.sz_stream.specs.InputRuns.{CanRead, Fills, IsReady};
 ghost use Rattle.sz_resume.specs.Halts.{of_file};
 ghost use Rattle.sz_resume.specs.Standing.{Source, Stands, IsFound};
 ghost use Rattle.sz_resume.specs.Entries.{done_of};
-ghost use Rattle.sz_resume.specs.Turns.{AllStand, IsBehind, HasNext, AddsRound, StopsHalt, EndsSo};
+ghost use Rattle.sz_resume.specs.Turns.{AllStand, IsAfter, HasNext, AddsRound, StopsHalt, EndsSo};
 ghost use Rattle.sz_resume.specs.Stops.{AreSmall, LeavesRounds, SpellsMore, HoldsAll};
 ghost use Rattle.sz_resume.specs.Runs.{IsJournalOf, HasJournal, RunsSource, TellsShort};
 
 use crate::halt::{Halt, of_disk, of_file};
-use crate::round::{done_behind, round_entry};
+use crate::round::{done_after, round_entry};
 use crate::skip::skip;
 use crate::tables::tables_of;
 use std::alloc::Global;
@@ -95,12 +95,12 @@ pub fn resume_file<R: Threads + Sync, F: Files, G: Gate + Sync, K: Disk>(
 {
     let mut buffer = Vec::new(alloc);
     buffer.resize(PIECE_BYTES, 0)?;
-    let done = done_behind(journal.rounds());
+    let done = done_after(journal.rounds());
     let all = skip(files, file, &mut buffer, done.bytes)?;
     if !all {
         return Err(Halt::Short(journal.last_gate()));
     }
-    run_behind(
+    run_after(
         rt,
         alloc,
         job,
@@ -116,8 +116,8 @@ pub fn resume_file<R: Threads + Sync, F: Files, G: Gate + Sync, K: Disk>(
     )
 }
 
-/// The same where the bytes of the journal's rounds were read, and this is done of the input: what is left of the file stands behind them.
-fn run_behind<R: Threads + Sync, F: Files, G: Gate + Sync, K: Disk>(
+/// The same where the bytes of the journal's rounds were read, and this is done of the input: what is left of the file stands after them.
+fn run_after<R: Threads + Sync, F: Files, G: Gate + Sync, K: Disk>(
     rt: &R,
     alloc: Global,
     job: &Job,
@@ -230,7 +230,7 @@ fn run_next<R: Threads + Sync, G: Gate + Sync, K: Disk>(
     ensures journal { OnOk result ((name : JobBytes) → IsJournalOf name job.now journal.old (K.bytes disk.old)
         → IsJournalOf name job.now journal.new (K.bytes disk.new)) }
     ensures stands { OnOk result ((source : Source) (start left : Option (List ℕ))
-        → IsBehind job.now source.frame source.most (rounds_of journal.old) intake.old start left
+        → IsAfter job.now source.frame source.most (rounds_of journal.old) intake.old start left
         → start ≡ Some (drop (last_progress (rounds_of journal.old)).bytes source.bytes) → AllStand job.now source (rounds_of journal.old)
         → AllStand job.now source (rounds_of journal.new)) }
     ensures keeps { OnOk result ((name : JobBytes) (held : List ℕ) → K.bytes disk.old ≡ Some held
@@ -238,7 +238,7 @@ fn run_next<R: Threads + Sync, G: Gate + Sync, K: Disk>(
         → KeepsRounds (K.bytes disk.new) (K.may_leave disk.new) name (all_tables job.now.compiled) (rounds_of journal.new)) }
 
     ensures stopped { (name : JobBytes) (source : Source) (held : List ℕ) (start left : Option (List ℕ))
-        → IsBehind job.now source.frame source.most (rounds_of journal.old) intake.old start left
+        → IsAfter job.now source.frame source.most (rounds_of journal.old) intake.old start left
         → start ≡ Some (drop (last_progress (rounds_of journal.old)).bytes source.bytes)
         → Stands name job.now source held (rounds_of journal.old) → Rests (K.bytes disk.old) (K.may_leave disk.old) held
         → are_told (K.may_leave disk.old) ≡ true → IsJournalOf name job.now journal.old (K.bytes disk.old)
@@ -265,7 +265,7 @@ fn run_next<R: Threads + Sync, G: Gate + Sync, K: Disk>(
     }
 }
 
-/// The tables of a job whose input ends so behind the rounds of its journal.
+/// The tables of a job whose input ends so after the rounds of its journal.
 fn ended(alloc: Global, job: &Job, journal: &Journal, ending: Ending) -> Result<Saved, Halt>
     requires job { IsJob job.now }
     requires spelled { HaveSpelling (all_tables job.now.compiled) }

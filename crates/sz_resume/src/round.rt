@@ -1,4 +1,4 @@
-//! A round as an entry of the journal, and what of an input is done behind the rounds of one.
+//! A round as an entry of the journal, and what of an input is done after the rounds of one.
 ghost use Rattle.std.specs.Prelude.{◌≡◌, ◌+◌, ◌<◌, ◌≤◌, ◌^◌, List, IfOk};
 ghost use Rattle.sz_types.specs.Tables.{Declaration};
 ghost use Rattle.sz_mean.specs.Marked.{all_tables};
@@ -23,8 +23,8 @@ use sz_stream::{Done, Intake};
 use sz_total::Total;
 use sz_value::NoMemory;
 
-/// What of its input is done behind these rounds of a job.
-pub(crate) fn done_behind(rounds: &RoundEntries) -> Done
+/// What of its input is done after these rounds of a job.
+pub(crate) fn done_after(rounds: &RoundEntries) -> Done
     ensures value { result ≡ done_of (format.last_progress rounds.now) }
     ensures can { (name : JobBytes) (decls : List Declaration) → AreRounds name decls rounds.now → CanGoOn result }
     ensures passed { (name : JobBytes) (decls : List Declaration) → AreRounds name decls rounds.now → result.passed ≤ name.skip }

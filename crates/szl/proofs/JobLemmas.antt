@@ -1,4 +1,4 @@
--- What a job answers and leaves whose journal is opened: from its statics, its journal, and what is behind that.
+-- What a job answers and leaves whose journal is opened: from its statics, its journal, and what is after that.
 use Rattle.std.proofs.Common.{◌≡◌, ◌≢◌, ℕ, ◌+◌, ◌-◌, ◌^◌, ◌<◌, ◌≤◌, Bool, true, false, List, [], ◌∷◌, ◌++◌, length, take, Option, Some, None, IfSome}
 use Rattle.std.proofs.Common.{refl, sym, ap, ◌∙◌, subst, arith, inl, inr}
 use Rattle.std.specs.Prelude.{unwrap_or, Result, Ok, Err, if◌then◌else◌}
@@ -44,15 +44,15 @@ use Rattle.szl.specs.Outcome.{written, outcome_faulted, outcome_of_shards, outco
 use Rattle.szl.specs.ProgramRuns.{GivesJob, IsJobOf}
 use Rattle.szl.specs.Records.{Cut}
 use Rattle.szl.specs.Shards.{shards_in, shard_sizes, job_of}
-use Rattle.szl.specs.Resuming.{last_gate, damaged_behind, unless_journal, source_of, outcome_behind_statics}
-use Rattle.szl.specs.ResumePromise.{IfKnown, IsBehind, KeepsJob}
+use Rattle.szl.specs.Resuming.{last_gate, damaged_after, unless_journal, source_of, outcome_after_statics}
+use Rattle.szl.specs.ResumePromise.{IfKnown, IsRest, KeepsJob}
 use Rattle.szl.specs.Promise.{IfRead}
-use Rattle.szl.specs.JournalRuns.{failure_of_journal, as_memory, AnswersJob, IsBehindRounds, IsProgramOutcome, IfBegun, but_one}
+use Rattle.szl.specs.JournalRuns.{failure_of_journal, as_memory, AnswersJob, IsAfterRounds, IsProgramOutcome, IfBegun, but_one}
 use Rattle.szl.proofs.AnswerLemmas.{cut_of, fault_is_numbered, same_outcome}
 use Rattle.szl.proofs.OpeningLemmas.{holds_or}
 use Rattle.szl.proofs.OpenedLemmas.{opened_none}
 use Rattle.szl.proofs.SaysLemmas.{says}
-use Rattle.szl.proofs.BehindRoundsLemmas.{shown_of, opens_both, not_short}
+use Rattle.szl.proofs.AfterRoundsLemmas.{shown_of, opens_both, not_short}
 use Rattle.szl.proofs.KeepLemmas.{found_doubled, left_single, stands_single, kept_left, same_rounds, found_now, left_since_opened}
 
 -- what may be told, by what it tells
@@ -60,11 +60,11 @@ pub all_told : (told : Option (List ℕ)) (P : List ℕ → Type 0) → ((bytes 
 all_told None P each = tt
 all_told (Some bytes) P each = each bytes refl
 
--- something behind a journal
+-- something after a journal
 pub record HasRest (s : RunSettings) (IfSo : (Marked → List Slot → Type 0) → Type 0) (name : JobBytes) (told journal : Option (List ℕ)) (cut : Cut)
     : Type 0 where
   pub rest : Answer
-  pub behind : IsBehind s IfSo name told cut journal rest
+  pub behind : IsRest s IfSo name told cut journal rest
 
 -- where no program is run, it may be anything
 pub no_rest : (s : RunSettings) (IfSo : (Marked → List Slot → Type 0) → Type 0) (name : JobBytes) (told journal : Option (List ℕ)) (cut : Cut)
@@ -115,17 +115,17 @@ module _ {F : Type 0} (the_files : files.Ghosts F) (s : RunSettings) (program : 
   -- an answer before the input is opened, for some standing of the journal
   before_input : (f : Failure) (standing : Standing)
       → IfKnown (status_of_answer {A = List ℕ} (Err f)) (IfBegun s program (λ program slots. IfSome journal (λ held. stand.Stands name (all_tables program) held standing)))
-      → ((size : ℕ) (rest : Answer) → Decides (as_memory {T = List ℕ} (Err f)) (outcome_behind_statics (unless_journal name standing size) rest (statics program s.budget))
+      → ((size : ℕ) (rest : Answer) → Decides (as_memory {T = List ℕ} (Err f)) (outcome_after_statics (unless_journal name standing size) rest (statics program s.budget))
       (Rose (the_files.faults old) (the_files.faults old)))
       → ((most : ℕ → ℕ) (size : ℕ) (rest : Answer) → IfRead (status_of_answer (as_memory {T = List ℕ} (Err f)))
-      ((outcome_behind_statics (unless_journal name standing size) rest (statics program s.budget)).opens ≡ 1))
+      ((outcome_after_statics (unless_journal name standing size) rest (statics program s.budget)).opens ≡ 1))
       → status_of_answer (as_memory {T = List ℕ} (Err f)) ≢ status.ReadFailed → OfProgram old (Err f)
   before_input f standing stands decides one other =
       let input = unwrap_or told_at [] in
       let c = cut_of s.frame input in
       let r = some_rest s program name told_at journal c.cut in
       record {
-        outcome = outcome_behind_statics (unless_journal name standing (length input)) r.rest (statics program s.budget);
+        outcome = outcome_after_statics (unless_journal name standing (length input)) r.rest (statics program s.budget);
         of = record {
           input = input;
           cut = c.cut;
@@ -155,8 +155,8 @@ module _ {F : Type 0} (the_files : files.Ghosts F) (s : RunSettings) (program : 
   pub no_job : (f : Failure) → GivesJob program s (Err f) → OfProgram old (Err f)
   no_job (failure.Faulted n fault) h =
       before_input (failure.Faulted n fault) Empty (λ read memory slots begun. let no = sym h.1 ∙ begun in absurd (cc))
-      (λ size rest. says (ap (outcome_behind_statics (unless_journal name Empty size) rest) h.1 ∙ ap (λ k. outcome_faulted k (seen_fault fault)) (sym h.0)))
-      (λ most size rest read memory. ap (λ (o : Answer). o.opens) (ap (outcome_behind_statics (unless_journal name Empty size) rest) h.1))
+      (λ size rest. says (ap (outcome_after_statics (unless_journal name Empty size) rest) h.1 ∙ ap (λ k. outcome_faulted k (seen_fault fault)) (sym h.0)))
+      (λ most size rest read memory. ap (λ (o : Answer). o.opens) (ap (outcome_after_statics (unless_journal name Empty size) rest) h.1))
       (λ e. cc)
   no_job failure.NoMemory h = no_memory_before
   no_job failure.Usage h = absurd h
@@ -179,13 +179,13 @@ module _ {F : Type 0} (the_files : files.Ghosts F) (s : RunSettings) (program : 
       → ((held : List ℕ) → journal ≡ Some held → FitsError name (all_tables program) held e) → OfProgram old (Err (failure_of_journal e))
   no_journal slots begun errors.OtherJob causes =
       before_input failure.OtherJob OtherJob (λ read memory others so. all_told journal _ causes)
-      (λ size rest. says (ap (outcome_behind_statics (unless_journal name OtherJob size) rest) begun))
-      (λ most size rest read memory. ap (λ (o : Answer). o.opens) (ap (outcome_behind_statics (unless_journal name OtherJob size) rest) begun))
+      (λ size rest. says (ap (outcome_after_statics (unless_journal name OtherJob size) rest) begun))
+      (λ most size rest read memory. ap (λ (o : Answer). o.opens) (ap (outcome_after_statics (unless_journal name OtherJob size) rest) begun))
       (λ e. cc)
   no_journal slots begun (errors.Damaged gate) causes =
       before_input (failure.JournalDamaged gate) (DamagedAt gate) (λ read memory others so. all_told journal _ causes)
-      (λ size rest. says (ap (outcome_behind_statics (unless_journal name (DamagedAt gate) size) rest) begun))
-      (λ most size rest read memory. ap (λ (o : Answer). o.opens) (ap (outcome_behind_statics (unless_journal name (DamagedAt gate) size) rest) begun))
+      (λ size rest. says (ap (outcome_after_statics (unless_journal name (DamagedAt gate) size) rest) begun))
+      (λ most size rest read memory. ap (λ (o : Answer). o.opens) (ap (outcome_after_statics (unless_journal name (DamagedAt gate) size) rest) begun))
       (λ e. cc)
   no_journal slots begun errors.Failed causes = disk_before
   no_journal slots begun errors.NoMemory causes = no_memory_before
@@ -208,7 +208,7 @@ is_opened name decls (Some held) j fits = by (fits held refl)
       stands = empty.0;
       same = λ size rest.
           ap (λ rs. unless_journal name (Spelled rs) size rest) empty.1
-          ∙ ap (λ b. if b then damaged_behind (last_gate name []) 2 else rest) (not_short size 0 (omega arith));
+          ∙ ap (λ b. if b then damaged_after (last_gate name []) 2 else rest) (not_short size 0 (omega arith));
     }
 
 module _ (law : IsOneStanding) (s : RunSettings) (low : 1 ≤ s.shard) (no_save : s.save ≡ false) (program : Marked) (slots : List Slot)
@@ -225,14 +225,14 @@ module _ (law : IsOneStanding) (s : RunSettings) (low : 1 ≤ s.shard) (no_save 
       by : ◌≡◌ {A = Outcome (List Slot)} (Done slots) (Done others) → slots ≡ others
       by e = cc
 
-  -- the job is answered behind its rounds
-  pub behind_journal : {F : Type 0} (the_files : files.Ghosts F) (old new : F) (journal mid : Option (List ℕ)) (may_leave : Images)
+  -- the job is answered after its rounds
+  pub after_journal : {F : Type 0} (the_files : files.Ghosts F) (old new : F) (journal mid : Option (List ℕ)) (may_leave : Images)
       (answer : Result (List ℕ) Failure)
       → ((held : List ℕ) → journal ≡ Some held → FitsAnswer name (all_tables program) held (Ok j))
       → ((held : List ℕ) → journal ≡ Some held → KeepsRounds mid may_leave name (all_tables program) (rounds_of j))
-      → AnswersJob the_files (λ st. IsBehindRounds s run_job name (rounds_of j) (the_files.held old s.input) mid) (s.input ∷ []) but_one old new answer
+      → AnswersJob the_files (λ st. IsAfterRounds s run_job name (rounds_of j) (the_files.held old s.input) mid) (s.input ∷ []) but_one old new answer
       → AnswersJob the_files (IsProgramOutcome s program name (the_files.held old s.input) journal) (s.input ∷ []) but_one old new answer
-  behind_journal the_files old new journal mid may_leave answer fits keeps a =
+  after_journal the_files old new journal mid may_leave answer fits keeps a =
       let b = a.of in
       let o = is_opened name (all_tables program) journal j fits in
       record {
@@ -263,7 +263,7 @@ module _ (law : IsOneStanding) (s : RunSettings) (low : 1 ≤ s.shard) (no_save 
                 ∙ ap (λ sl. outcome_of_statics program s b.cut (Done sl)) same;
           };
           is = b.outcome_is ∙ o.same (length b.input) b.rest
-              ∙ sym (ap (outcome_behind_statics (unless_journal name o.standing (length b.input)) b.rest) begun);
+              ∙ sym (ap (outcome_after_statics (unless_journal name o.standing (length b.input)) b.rest) begun);
         };
         decides = a.decides;
         opened = a.opened;

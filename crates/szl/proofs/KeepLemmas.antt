@@ -31,7 +31,7 @@ use Rattle.szl.specs.Failing.{status_of}
 use Rattle.szl.specs.declared.status.Status.{Status}
 use Rattle.szl.specs.declared.status.Status.TheVariants as status
 use Rattle.szl.specs.ResumePromise.{IsNameFor, KeepsEntries, KeepsJob, LosesNothing}
-use Rattle.szl.specs.Resuming.{name_of, source_of}
+use Rattle.szl.specs.Resuming.{kept_job, source_of}
 use Rattle.szl.specs.Shards.{shard_sizes}
 use Rattle.szl.proofs.AnswerLemmas.{cut_of, same_outcome}
 use Rattle.szl.proofs.ShardLemmas.{sizes_are_shards}
@@ -299,7 +299,7 @@ module _ {K : Type 0} (the_disk : disks.Ghosts K) where
       (λ image left. inl (the_image (the_disk.may_leave disk) held image told rests.only left))
 
   -- of one name, and so of each that it may be
-  pub entries_named : (s : RunSettings) (name : JobBytes) (program proto : List ℕ) → name ≡ name_of s program proto → (disk new : K)
+  pub entries_named : (s : RunSettings) (name : JobBytes) (program proto : List ℕ) → name ≡ kept_job s program proto → (disk new : K)
       → KeepsEntries the_disk (λ other. other ≡ name) disk new → KeepsEntries the_disk (IsNameFor s) disk new
   entries_named s name program proto is disk new keeps held rests told =
       leaves_if the_disk.time the_disk.left_since disk new (LosesNothing (λ other. other ≡ name) held) (LosesNothing (IsNameFor s) held) by
@@ -335,14 +335,14 @@ module _ {K : Type 0} (the_disk : disks.Ghosts K) where
         (opened held rests told)
 
     -- and then rounds were appended
-    pub entries_behind : (journal : Journal) (new : K)
+    pub entries_after : (journal : Journal) (new : K)
         → ((held : List ℕ) → the_disk.bytes disk ≡ Some held → FitsAnswer name decls held (Ok journal))
         → ((held : List ℕ) → the_disk.bytes disk ≡ Some held → KeepsRounds (the_disk.bytes mid) (the_disk.may_leave mid) name decls (rounds_of journal))
         → are_told (the_disk.may_leave mid) ≡ are_told (the_disk.may_leave disk)
         → ((held : List ℕ) → Rests (the_disk.bytes mid) (the_disk.may_leave mid) held → are_told (the_disk.may_leave mid) ≡ true
         → LeavesOnly the_disk.time the_disk.left_since mid new (SpellsMore name decls (rounds_of journal)))
         → KeepsEntries the_disk (λ other. other ≡ name) disk new
-    entries_behind journal new fits keeps same later held rests told =
+    entries_after journal new fits keeps same later held rests told =
         let k = keeps held rests.read in
         leaves_both the_disk.time the_disk.left_since disk mid new (LosesNothing (λ other. other ≡ name) held) (entries_opened held rests told)
         (leaves_if the_disk.time the_disk.left_since mid new (SpellsMore name decls (rounds_of journal)) (LosesNothing (λ other. other ≡ name) held)

@@ -1,6 +1,6 @@
+mod AfterLemmas
+mod AfterRoundsLemmas
 mod AnswerLemmas
-mod BehindLemmas
-mod BehindRoundsLemmas
 mod BoundLemmas
 mod CompleteLemmas
 mod EndedLemmas

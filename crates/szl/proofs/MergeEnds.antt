@@ -29,12 +29,12 @@ one_more (t ∷ states) s h of = (h.0, one_more states s h.1 of)
 pub longer : (states : List SavedState) (s : SavedState) → length (states ++ s ∷ []) ≡ suc (length states)
 longer states s = let both = length-append states (s ∷ []) in omega (arith, both)
 
--- the files end so, behind those of the states
+-- the files end so, after those of the states
 pub record HasEnd (before : List SavedState) (files : List (List ℕ)) : Type 0 where
   pub end : Merged
   pub merges : MergesFrom before files end
 
--- the files behind one that can be joined end in some way
+-- the files after one that can be joined end in some way
 abbrev EndsLater : List SavedState → List ℕ → List (List ℕ) → Type 0
 EndsLater before bytes files =
     (state : SavedState) → length bytes ≤ most_saved_bytes → Follows before bytes state → HasEnd (before ++ state ∷ []) files

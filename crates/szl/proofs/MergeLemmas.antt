@@ -16,7 +16,7 @@ use Rattle.szl.specs.declared.failure.Failure.{Failure}
 use Rattle.szl.specs.declared.failure.Failure.TheVariants as failure
 use Rattle.szl.specs.Failing.{status_of}
 use Rattle.szl.specs.Merging as ends
-use Rattle.szl.specs.Merging.{Merged, EndsAt, MergesFrom, AreHeld, outcome_of_merge, most_saved_bytes}
+use Rattle.szl.specs.Merging.{Merged, EndsAt, MergesFrom, AreBytesOf, outcome_of_merge, most_saved_bytes}
 use Rattle.szl.specs.MergeAnswers.{IsOfFile, StandFor, AddsFile, AnswersFrom, AnswersMerge, IsOutputOf, lacks_memory}
 use Rattle.szl.specs.Opening.{Decides, status_of_answer}
 use Rattle.szl.specs.ProgramRuns.{vec_items_of}
@@ -32,7 +32,7 @@ module _ {F : Type 0} (the_files : files.Ghosts F) (save : Bool) where
   some_bytes old [] = []
   some_bytes old (name ∷ names) = unwrap_or (the_files.held old name) [] ∷ some_bytes old names
 
-  pub some_held : (old : F) (names : List (List ℕ)) → AreHeld (the_files.held old) names (some_bytes old names)
+  pub some_held : (old : F) (names : List (List ℕ)) → AreBytesOf (the_files.held old) names (some_bytes old names)
   some_held old [] = tt
   some_held old (name ∷ names) = (holds_or (the_files.held old name) [], some_held old names)
 
@@ -42,7 +42,7 @@ module _ {F : Type 0} (the_files : files.Ghosts F) (save : Bool) where
 
   -- the bytes under names at two moments
   held_then : (old mid : F) → ((name : List ℕ) → the_files.held mid name ≡ the_files.held old name) → (names bytes : List (List ℕ))
-      → AreHeld (the_files.held mid) names bytes → AreHeld (the_files.held old) names bytes
+      → AreBytesOf (the_files.held mid) names bytes → AreBytesOf (the_files.held old) names bytes
   held_then old mid same [] [] h = tt
   held_then old mid same [] (b ∷ bytes) h = absurd h
   held_then old mid same (name ∷ names) [] h = absurd h
@@ -203,7 +203,7 @@ module _ {F : Type 0} (the_files : files.Ghosts F) (save : Bool) where
               gained kept later one (subst (λ n. OpensFiles the_files mid new names n (status_of_answer answer)) one_less opened);
         }
       where
-        held_long : (held : List ℕ → Option (List ℕ)) (ns bs : List (List ℕ)) → AreHeld held ns bs → length bs ≡ length ns
+        held_long : (held : List ℕ → Option (List ℕ)) (ns bs : List (List ℕ)) → AreBytesOf held ns bs → length bs ≡ length ns
         held_long held [] [] h = refl
         held_long held [] (b ∷ bs) h = absurd h
         held_long held (n ∷ ns) [] h = absurd h

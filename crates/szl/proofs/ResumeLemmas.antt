@@ -34,13 +34,13 @@ use Rattle.szl.specs.Judging.{IsFailureOf, IsFailureOn}
 use Rattle.szl.specs.Opening.{Decides, ReadsText, ran_out, past_program, status_of_answer}
 use Rattle.szl.specs.Outcome.{outcome_of_shards, outcome_refused}
 use Rattle.szl.specs.Promise.{IfRead, OpensFiles}
-use Rattle.szl.specs.ProtoFiles.{IsFileRead, IsOfFile, outcome_of_file, behind_file}
+use Rattle.szl.specs.ProtoFiles.{IsFileRead, IsOfFile, outcome_of_file, after_file}
 use Rattle.szl.specs.ProtoReads.{ReadsTypes, GivesTypes}
 use Rattle.szl.specs.Records.{Cut}
 use Rattle.szl.specs.Savable.{savable}
 use Rattle.szl.specs.Shards.{job_of}
-use Rattle.szl.specs.Resuming.{name_of, source_of, last_gate, damaged_behind, unless_journal, outcome_behind_statics, outcome_behind_checked, outcome_behind_read, outcome_of_resume}
-use Rattle.szl.specs.ResumePromise.{IfSpelled, IfRun, IfKnown, IsBehind, IsJobOutcome, IsToldFile, IsNameFor, KeepsDisk, KeepsEntries, KeepsJournal}
+use Rattle.szl.specs.Resuming.{kept_job, source_of, last_gate, damaged_after, unless_journal, outcome_after_statics, outcome_after_checked, outcome_after_read, outcome_of_resume}
+use Rattle.szl.specs.ResumePromise.{IfSpelled, IfRun, IfKnown, IsRest, IsJobOutcome, IsToldFile, IsNameFor, KeepsDisk, KeepsEntries, KeepsJournal}
 use Rattle.szl.specs.JournalRuns.{as_memory, AnswersJob, IsProgramOutcome, IsTextOutcome, IsFileOutcome, IfBegun, but_one}
 use Rattle.szl.proofs.JudgementLemmas.{one_reading, every_text_is_read}
 use Rattle.szl.proofs.AnswerLemmas.{cut_of, no_usage}
@@ -48,7 +48,7 @@ use Rattle.szl.proofs.OpeningLemmas.{holds_or}
 use Rattle.szl.proofs.OpenedLemmas.{opened_none, opened_one, opened_or_none, opened_then}
 use Rattle.szl.proofs.SaysLemmas.{says}
 use Rattle.szl.proofs.SettingsLemmas.{IsAnswered, decides_since, long_failure}
-use Rattle.szl.proofs.BehindLemmas.{decides_behind}
+use Rattle.szl.proofs.AfterLemmas.{decides_after}
 use Rattle.szl.proofs.ProtoLemmas.{every_file_is_read, one_file_reading}
 use Rattle.szl.proofs.JobLemmas.{HasRest, no_rest, some_rest}
 use Rattle.szl.proofs.KeepLemmas.{keeps_none, entries_untouched}
@@ -103,9 +103,9 @@ rest_of_file s name told journal cut (with_types types) reading =
 
 -- ---- an outcome opens a file, and is no bad command line
 
-answered_behind : (end : ShardsEnd) (ending : Ending) (output : List ℕ) (rest : Answer)
+answered_after : (end : ShardsEnd) (ending : Ending) (output : List ℕ) (rest : Answer)
     → rest ≡ record (outcome_of_shards (λ emits. output) ending end) { opens = 2 } → IsAnswered rest
-answered_behind end ending output rest is =
+answered_after end ending output rest is =
     subst IsAnswered (sym is) (record { opens = omega arith; other = no_usage (λ emits. output) ending end })
 
 answered_journal : (name : JobBytes) (standing : Standing) (size : ℕ) (rest : Answer) → IsAnswered rest → IsAnswered (unless_journal name standing size rest)
@@ -114,22 +114,22 @@ answered_journal name OtherJob size rest a = record { opens = omega arith; other
 answered_journal name (DamagedAt gate) size rest a = record { opens = omega arith; other = λ e. cc }
 answered_journal name (Spelled rounds) size rest a = by (nat_lt size (last_progress rounds).bytes)
   where
-    by : (b : Bool) → IsAnswered (if b then damaged_behind (last_gate name rounds) 2 else rest)
+    by : (b : Bool) → IsAnswered (if b then damaged_after (last_gate name rounds) 2 else rest)
     by true = record { opens = omega arith; other = λ e. cc }
     by false = a
 
 answered_statics : (by : Answer → Answer) (rest : Answer) → IsAnswered (by rest) → (o : Outcome (List Slot))
-    → IsAnswered (outcome_behind_statics by rest o)
+    → IsAnswered (outcome_after_statics by rest o)
 answered_statics by rest a (Done slots) = a
 answered_statics by rest a (Faulted f) = record { opens = omega arith; other = λ e. cc }
 
 answered_checked : (budget : ℕ) (by : Answer → Answer) (rest : Answer) → IsAnswered (by rest) → (found : Result Marked Refusal)
-    → IsAnswered (outcome_behind_checked budget by rest found)
+    → IsAnswered (outcome_after_checked budget by rest found)
 answered_checked budget by rest a (Ok program) = answered_statics by rest a (statics program budget)
 answered_checked budget by rest a (Err r) = record { opens = omega arith; other = λ e. cc }
 
 answered_read : (s : RunSettings) (by : Answer → Answer) (rest : Answer) → IsAnswered (by rest) → (types : List TypeShape) (reading : Reading)
-    → IsAnswered (outcome_behind_read s by rest reading types)
+    → IsAnswered (outcome_after_read s by rest reading types)
 answered_read s by rest a types (refused r) = record { opens = omega arith; other = λ e. cc }
 answered_read s by rest a types (spells ss) = answered_checked s.budget by rest a (savable types true s.ignore_undefs ss)
 
@@ -137,7 +137,7 @@ answered_text : (s : RunSettings) (types : List TypeShape) (text : List ℕ) (na
     (outcome : Answer) → IsTextOutcome s types text name told journal st outcome → IsAnswered outcome
 answered_text s types text name told journal st outcome t =
     let b = t.by_journal in
-    let rest = answered_behind b.behind.end b.behind.ending b.behind.output b.rest b.behind.is in
+    let rest = answered_after b.behind.end b.behind.ending b.behind.output b.rest b.behind.is in
     subst IsAnswered (sym b.is)
     (answered_read s (unless_journal name b.standing (length b.input)) b.rest (answered_journal name b.standing (length b.input) b.rest rest) types t.reading)
 
@@ -153,12 +153,12 @@ module _ {F : Type 0} (the_files : files.Ghosts F) (s : RunSettings) (types : Li
 
   -- the text or its program is refused
   refused_so : (r : Refusal) (reading : Reading) → IsRead text reading → ((IsSo : Marked → List Slot → Type 0) → IfSpelled s types reading IsSo)
-      → ((by : Answer → Answer) (rest : Answer) → outcome_behind_read s by rest reading types ≡ outcome_refused r) → OfText old (Err (failure.Refused r))
+      → ((by : Answer → Answer) (rest : Answer) → outcome_after_read s by rest reading types ≡ outcome_refused r) → OfText old (Err (failure.Refused r))
   refused_so r reading read none is =
       let input = unwrap_or told_of [] in
       let c = cut_of s.frame input in
       let rest = no_rest s (IfSpelled s types reading) name told_of journal c.cut none in
-      let outcome = outcome_behind_read s (unless_journal name Empty (length input)) rest.rest reading types in
+      let outcome = outcome_after_read s (unless_journal name Empty (length input)) rest.rest reading types in
       let same = is (unless_journal name Empty (length input)) rest.rest in
       record {
         outcome = outcome;
@@ -189,7 +189,7 @@ module _ {F : Type 0} (the_files : files.Ghosts F) (s : RunSettings) (types : Li
       let c = cut_of s.frame input in
       let rest = rest_of_text s types name told_of journal c.cut reading in
       record {
-        outcome = outcome_behind_read s (unless_journal name Empty (length input)) rest.rest reading types;
+        outcome = outcome_after_read s (unless_journal name Empty (length input)) rest.rest reading types;
         of = record {
           reading = reading;
           read = read;
@@ -231,7 +231,7 @@ module _ {F : Type 0} (the_files : files.Ghosts F) (s : RunSettings) (types : Li
     pub program_refused : (f : Failure) → IsFailureOn (savable types true s.ignore_undefs ss) f → OfText old (Err f)
     program_refused (failure.Refused r) h =
         refused_so r (spells ss) (short, has) (λ IsSo program slots is begun. let no = sym h ∙ is in absurd (cc))
-        (λ by rest. ap (outcome_behind_checked s.budget by rest) h)
+        (λ by rest. ap (outcome_after_checked s.budget by rest) h)
     program_refused failure.NoMemory h = no_memory_for (spells ss) (short, has)
     program_refused failure.Usage h = absurd h
     program_refused (failure.Faulted n f) h = absurd h
@@ -273,7 +273,7 @@ module _ {F : Type 0} (the_files : files.Ghosts F) (s : RunSettings) (types : Li
                 is = b.behind.is;
                 of_run = if_spelled s types ss program h _ b.behind.of_run;
               };
-              is = b.is ∙ sym (ap (outcome_behind_checked s.budget (unless_journal name b.standing (length b.input)) b.rest) h);
+              is = b.is ∙ sym (ap (outcome_after_checked s.budget (unless_journal name b.standing (length b.input)) b.rest) h);
             };
           };
           decides = a.decides;
@@ -324,11 +324,11 @@ module _ {F : Type 0} (the_files : files.Ghosts F) (s : RunSettings) (types : Li
       → OfProgramFile new (Err f)
   unread f text reading new read holds known ends =
       let told = the_files.held old s.input in
-      let name = name_of s text proto in
+      let name = kept_job s text proto in
       let input = unwrap_or told [] in
       let c = cut_of s.frame input in
       let rest = rest_of_text s types name told journal c.cut reading in
-      let outcome = outcome_behind_read s (unless_journal name Empty (length input)) rest.rest reading types in
+      let outcome = outcome_after_read s (unless_journal name Empty (length input)) rest.rest reading types in
       let of : IsTextOutcome s types text name told journal (status_of f) outcome = record {
         reading = reading;
         read = read;
@@ -358,7 +358,7 @@ module _ {F : Type 0} (the_files : files.Ghosts F) (s : RunSettings) (types : Li
       → IfRead (status_of f) (OpensOne the_files old new) → OfProgramFile new (Err f)
   file_unread (failure.Refused r) new reads gains one =
       let told = the_files.held old s.input in
-      let name = name_of s reads.text proto in
+      let name = kept_job s reads.text proto in
       let input = unwrap_or told [] in
       let c = cut_of s.frame input in
       let rest = rest_of_text s types name told journal c.cut (refused r) in
@@ -417,11 +417,11 @@ module _ {F : Type 0} (the_files : files.Ghosts F) (s : RunSettings) (types : Li
       → ReadsText (the_files.held old s.program) most_program_bytes past_program rose (Ok bytes)
       → the_files.names mid ≡ the_files.names old ++ s.program ∷ [] → KeepsFiles the_files.held the_files.left the_files.given the_files.faults old mid
       → KeepsFiles the_files.held the_files.left the_files.given the_files.faults mid new → OpensOne the_files old mid
-      → AnswersJob the_files (IsTextOutcome s types bytes (name_of s bytes proto) (the_files.held mid s.input) journal) (s.input ∷ []) but_one mid new answer
+      → AnswersJob the_files (IsTextOutcome s types bytes (kept_job s bytes proto) (the_files.held mid s.input) journal) (s.input ∷ []) but_one mid new answer
       → OfProgramFile new answer
   text_resumed mid new bytes answer rose reads names keeps after one a =
-      let of = subst (λ h. IsTextOutcome s types bytes (name_of s bytes proto) h journal (status_of_answer answer) a.outcome) (keeps.held_same s.input) a.of in
-      let some = (answered_text s types bytes (name_of s bytes proto) (the_files.held old s.input) journal (status_of_answer answer) a.outcome of).opens in
+      let of = subst (λ h. IsTextOutcome s types bytes (kept_job s bytes proto) h journal (status_of_answer answer) a.outcome) (keeps.held_same s.input) a.of in
+      let some = (answered_text s types bytes (kept_job s bytes proto) (the_files.held old s.input) journal (status_of_answer answer) a.outcome of).opens in
       record {
         outcome = a.outcome;
         of = record {
@@ -436,9 +436,9 @@ module _ {F : Type 0} (the_files : files.Ghosts F) (s : RunSettings) (types : Li
 
 -- ---- the file of types
 
--- an outcome behind a file of types opens that file too
+-- an outcome after a file of types opens that file too
 answered_file : (name : List ℕ) (file : FileReading) (go : List TypeShape → Answer) → ((types : List TypeShape) → IsAnswered (go types))
-    → IsAnswered (behind_file (Some name) (outcome_of_file file go))
+    → IsAnswered (after_file (Some name) (outcome_of_file file go))
 answered_file name (bad_file f) go each = record { opens = omega arith; other = λ e. cc }
 answered_file name (with_types types) go each = record { opens = omega arith; other = (each types).other }
 
@@ -454,28 +454,28 @@ module _ {F K : Type 0} (the_files : files.Ghosts F) (the_disk : disks.Ghosts K)
     -- the file couldn't be read, or is refused
     untyped : (f : Failure) (bytes : List ℕ) (file : FileReading) → IsFileRead bytes file → IfSome (the_files.held old file_name) (λ told. told ≡ bytes)
         → ((IsSo : Marked → List Slot → Type 0) (reading : Reading) → IfKnown (status_of f) (IfRun s file reading IsSo))
-        → ((go : List TypeShape → Answer) → IsAnswered (behind_file (Some file_name) (outcome_of_file file go))
-        → Decides (as_memory {T = List ℕ} (Err f)) (behind_file (Some file_name) (outcome_of_file file go))
+        → ((go : List TypeShape → Answer) → IsAnswered (after_file (Some file_name) (outcome_of_file file go))
+        → Decides (as_memory {T = List ℕ} (Err f)) (after_file (Some file_name) (outcome_of_file file go))
         (Rose (the_files.faults old) (the_files.faults new)))
-        → ((go : List TypeShape → Answer) → IsAnswered (behind_file (Some file_name) (outcome_of_file file go))
-        → OpensFiles the_files old new (file_name ∷ s.program ∷ s.input ∷ []) (behind_file (Some file_name) (outcome_of_file file go)).opens
+        → ((go : List TypeShape → Answer) → IsAnswered (after_file (Some file_name) (outcome_of_file file go))
+        → OpensFiles the_files old new (file_name ∷ s.program ∷ s.input ∷ []) (after_file (Some file_name) (outcome_of_file file go)).opens
         (status_of_answer (as_memory {T = List ℕ} (Err f)))) → OfJob new (Err f)
     untyped f bytes file read holds known decides opened =
         let text = unwrap_or (the_files.held old s.program) [] in
         let t = every_text_is_read text in
         let told = the_files.held old s.input in
-        let name = name_of s text bytes in
+        let name = kept_job s text bytes in
         let input = unwrap_or told [] in
         let c = cut_of s.frame input in
         let rest = rest_of_file s name told (the_disk.bytes disk) c.cut file t.reading in
         let by = unless_journal name Empty (length input) in
-        let go = outcome_behind_read s by rest.rest t.reading in
-        let other = answered_behind rest.behind.end rest.behind.ending rest.behind.output rest.rest rest.behind.is in
+        let go = outcome_after_read s by rest.rest t.reading in
+        let other = answered_after rest.behind.end rest.behind.ending rest.behind.output rest.rest rest.behind.is in
         let a = answered_file file_name file go (λ types. answered_read s by rest.rest other types t.reading) in
-        let same : behind_file (Some file_name) (outcome_of_file file go) ≡ outcome_of_resume s file t.reading by rest.rest
-        = ap (λ n. behind_file n (outcome_of_file file go)) (sym named) in
+        let same : after_file (Some file_name) (outcome_of_file file go) ≡ outcome_of_resume s file t.reading by rest.rest
+        = ap (λ n. after_file n (outcome_of_file file go)) (sym named) in
         record {
-          outcome = behind_file (Some file_name) (outcome_of_file file go);
+          outcome = after_file (Some file_name) (outcome_of_file file go);
           of = record {
             proto = bytes;
             file = file;
@@ -499,7 +499,7 @@ module _ {F K : Type 0} (the_files : files.Ghosts F) (the_disk : disks.Ghosts K)
           };
           decides = decides go a;
           opened = subst (λ n. OpensFiles the_files old new (option_to_list n ++ s.program ∷ s.input ∷ [])
-              (behind_file (Some file_name) (outcome_of_file file go)).opens (status_of_answer (as_memory {T = List ℕ} (Err f)))) (sym named) (opened go a);
+              (after_file (Some file_name) (outcome_of_file file go)).opens (status_of_answer (as_memory {T = List ℕ} (Err f)))) (sym named) (opened go a);
         }
 
     types_unread : (f : Failure) → ReadsTypes the_files file_name old new (Err f) → OfJob new (Err f)
@@ -553,7 +553,7 @@ module _ {F K : Type 0} (the_files : files.Ghosts F) (the_disk : disks.Ghosts K)
       let text = unwrap_or (the_files.held old s.program) [] in
       let t = every_text_is_read text in
       let told = the_files.held old s.input in
-      let name = name_of s text bytes in
+      let name = kept_job s text bytes in
       let input = unwrap_or told [] in
       let c = cut_of s.frame input in
       let rest = rest_of_file s name told (the_disk.bytes disk) c.cut g.file t.reading in
@@ -594,7 +594,7 @@ module _ {F K : Type 0} (the_files : files.Ghosts F) (the_disk : disks.Ghosts K)
     file_resumed gives read of_file a =
         let b = a.of.of_text.by_journal in
         record {
-          outcome = behind_file s.proto a.outcome;
+          outcome = after_file s.proto a.outcome;
           of = record {
             proto = bytes;
             file = with_types types;
@@ -617,10 +617,10 @@ module _ {F K : Type 0} (the_files : files.Ghosts F) (the_disk : disks.Ghosts K)
                 ending = b.behind.ending;
                 output = b.behind.output;
                 is = b.behind.is;
-                of_run = (subst (λ h. IsBehind s (IfSpelled s types a.of.of_text.reading) (name_of s a.of.text bytes) h b.cut (the_disk.bytes disk) b.rest)
+                of_run = (subst (λ h. IsRest s (IfSpelled s types a.of.of_text.reading) (kept_job s a.of.text bytes) h b.cut (the_disk.bytes disk) b.rest)
                     (keeps.held_same s.input) b.behind).of_run;
               };
-              is = ap (behind_file s.proto) b.is;
+              is = ap (after_file s.proto) b.is;
             };
           };
           decides = by_decides s.proto;
@@ -630,12 +630,12 @@ module _ {F K : Type 0} (the_files : files.Ghosts F) (the_disk : disks.Ghosts K)
         rose : Decides (as_memory answer) a.outcome (Rose (the_files.faults old) (the_files.faults new))
         rose = decides_since (as_memory answer) a.outcome _ _ (rose_later _ _ _ keeps.faults_later) a.decides
 
-        by_decides : (name : Option (List ℕ)) → Decides (as_memory answer) (behind_file name a.outcome) (Rose (the_files.faults old) (the_files.faults new))
+        by_decides : (name : Option (List ℕ)) → Decides (as_memory answer) (after_file name a.outcome) (Rose (the_files.faults old) (the_files.faults new))
         by_decides None = rose
-        by_decides (Some name) = decides_behind name (as_memory answer) a.outcome _ rose
+        by_decides (Some name) = decides_after name (as_memory answer) a.outcome _ rose
 
         by_opened : (name : Option (List ℕ)) → GivesTypes the_files name old mid (Ok types)
-            → OpensFiles the_files old new (option_to_list name ++ s.program ∷ s.input ∷ []) (behind_file name a.outcome).opens
+            → OpensFiles the_files old new (option_to_list name ++ s.program ∷ s.input ∷ []) (after_file name a.outcome).opens
             (status_of_answer (as_memory answer))
         by_opened None g =
             subst (λ m. OpensFiles the_files m new (s.program ∷ s.input ∷ []) a.outcome.opens (status_of_answer (as_memory answer))) g.0 a.opened
@@ -657,35 +657,35 @@ module _ {F K : Type 0} (the_files : files.Ghosts F) (the_disk : disks.Ghosts K)
   }
     where
       by : (text proto : List ℕ) (reading : Reading) (file : FileReading)
-          → KeepsDisk the_disk s (IfRun s file reading) (name_of s text proto) (the_files.held old s.input) st disk disk
+          → KeepsDisk the_disk s (IfRun s file reading) (kept_job s text proto) (the_files.held old s.input) st disk disk
       by text proto reading (bad_file f) = record {
         untouched = λ none. refl;
-        entries = entries_untouched the_disk (λ other. other ≡ name_of s text proto) disk now;
+        entries = entries_untouched the_disk (λ other. other ≡ kept_job s text proto) disk now;
         found = λ input held t rests. tt;
       }
       by text proto reading (with_types types) =
-          nothing_kept the_disk s types (name_of s text proto) (the_files.held old s.input) st reading disk unfinished now
+          nothing_kept the_disk s types (kept_job s text proto) (the_files.held old s.input) st reading disk unfinished now
 
   -- what the program's file leaves
   pub file_keeps : (old mid : F) (types : List TypeShape) (bytes : List ℕ) (disk new : K)
       → ((name : List ℕ) → the_files.held mid name ≡ the_files.held old name) → IsFileRead bytes (with_types types)
       → IsOfFile s.proto (the_files.held old) bytes
       → ((text : List ℕ) (reading : Reading) → the_files.held mid s.program ≡ Some text → IsRead text reading
-      → KeepsDisk the_disk s (IfSpelled s types reading) (name_of s text bytes) (the_files.held mid s.input) st disk new)
+      → KeepsDisk the_disk s (IfSpelled s types reading) (kept_job s text bytes) (the_files.held mid s.input) st disk new)
       → KeepsEntries the_disk (IsNameFor s) disk new → KeepsJournal the_files the_disk s st old disk new
   file_keeps old mid types bytes disk new same read of_file k entries =
       record { entries = entries; of_job = λ text proto file reading t p file_read is_read. of_job text proto file reading t p file_read is_read }
     where
       of_job : (text proto : List ℕ) (file : FileReading) (reading : Reading) → the_files.held old s.program ≡ Some text
           → IsToldFile s.proto (the_files.held old) proto → IsFileRead proto file → IsRead text reading
-          → KeepsDisk the_disk s (IfRun s file reading) (name_of s text proto) (the_files.held old s.input) st disk new
+          → KeepsDisk the_disk s (IfRun s file reading) (kept_job s text proto) (the_files.held old s.input) st disk new
       of_job text proto file reading t p file_read is_read =
           let bytes_are : bytes ≡ proto = by s.proto of_file p in
           let file_is : with_types types ≡ file
           = one_file_reading proto (with_types types) file (subst (λ (b : List ℕ). IsFileRead b (with_types types)) bytes_are read) file_read in
-          subst (λ f. KeepsDisk the_disk s (IfRun s f reading) (name_of s text proto) (the_files.held old s.input) st disk new) file_is
-          (subst (λ (b : List ℕ). KeepsDisk the_disk s (IfSpelled s types reading) (name_of s text b) (the_files.held old s.input) st disk new) bytes_are
-          (subst (λ h. KeepsDisk the_disk s (IfSpelled s types reading) (name_of s text bytes) h st disk new) (same s.input)
+          subst (λ f. KeepsDisk the_disk s (IfRun s f reading) (kept_job s text proto) (the_files.held old s.input) st disk new) file_is
+          (subst (λ (b : List ℕ). KeepsDisk the_disk s (IfSpelled s types reading) (kept_job s text b) (the_files.held old s.input) st disk new) bytes_are
+          (subst (λ h. KeepsDisk the_disk s (IfSpelled s types reading) (kept_job s text bytes) h st disk new) (same s.input)
           (k text reading (same s.program ∙ t) is_read)))
         where
           by : (name : Option (List ℕ)) → IsOfFile name (the_files.held old) bytes → IsToldFile name (the_files.held old) proto → bytes ≡ proto

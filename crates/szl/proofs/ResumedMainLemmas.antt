@@ -21,14 +21,14 @@ use Rattle.szl.specs.Judging.{failure_of_words}
 use Rattle.sz_words.specs.declared.error.WordsError.{WordsError}
 use Rattle.sz_words.specs.declared.error.WordsError.TheVariants as words_errors
 use Rattle.sz_words.specs.Settings.{settings_in}
-use Rattle.szl.proofs.BehindLemmas.{words_fail}
+use Rattle.szl.proofs.AfterLemmas.{words_fail}
 use Rattle.szl.proofs.ResumeLemmas.{nothing_answered}
 use Rattle.szl.specs.Promise.{IsStatusOf, GainsOutput, IsLeftAlone, GainsLine, OpensFiles, line_of}
 use Rattle.szl.specs.ResumePromise.{ByCommand, IfKnown, IsJobOutcome, IsStatusOnDisk, MeansJob, CompletesJob, KeepsJob, KeepsJournal, IfRun}
 use Rattle.szl.specs.ResumePromise.{free_status, line_on_disk, names_on_disk}
 use Rattle.szl.specs.JournalRuns.{as_memory, AnswersJob}
 use Rattle.szl.specs.Judgement.{Reading, refused, spells}
-use Rattle.szl.specs.Resuming.{name_of, source_of}
+use Rattle.szl.specs.Resuming.{kept_job, source_of}
 use Rattle.szl.specs.Shards.{job_of}
 use Rattle.sz_protofile_laws.specs.Readings.{FileReading, bad_file, with_types}
 use Rattle.sz_journal_format.specs.declared.round.RoundEntry.{RoundEntry}
@@ -272,11 +272,11 @@ keeps_under the_files the_disk s first later old disk new done k = record {
   where
     by : (text proto input held : List ℕ) (file : FileReading) (reading : Reading)
         → IfRun s file reading (λ program slots. (before : List RoundEntry)
-        → IsFound (name_of s text proto) (job_of program slots s) (source_of s input) held before
-        → KeepsJob the_disk (name_of s text proto) (job_of program slots s) (source_of s input) held before first disk new)
+        → IsFound (kept_job s text proto) (job_of program slots s) (source_of s input) held before
+        → KeepsJob the_disk (kept_job s text proto) (job_of program slots s) (source_of s input) held before first disk new)
         → IfRun s file reading (λ program slots. (before : List RoundEntry)
-        → IsFound (name_of s text proto) (job_of program slots s) (source_of s input) held before
-        → KeepsJob the_disk (name_of s text proto) (job_of program slots s) (source_of s input) held before later disk new)
+        → IsFound (kept_job s text proto) (job_of program slots s) (source_of s input) held before
+        → KeepsJob the_disk (kept_job s text proto) (job_of program slots s) (source_of s input) held before later disk new)
     by text proto input held (bad_file f) reading h = tt
     by text proto input held (with_types types) (refused r) h = tt
     by text proto input held (with_types types) (spells ss) h = λ program slots is begun before found.

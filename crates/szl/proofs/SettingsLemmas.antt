@@ -37,7 +37,7 @@ use Rattle.szl.specs.Judgement.{Reading, spells, most_program_bytes}
 use Rattle.szl.specs.Judgement as readings
 use Rattle.szl.specs.Judging.{IsFailureOf}
 use Rattle.szl.specs.Merging.{Merged, bad}
-use Rattle.szl.specs.Promise.{IfRead, OpensFiles, names_behind, AreOfFiles, IsMergedFor, AreReadToEnd}
+use Rattle.szl.specs.Promise.{IfRead, OpensFiles, later_names, AreOfFiles, IsMergedFor, AreReadToEnd}
 use Rattle.szl.specs.Records.{Cut}
 use Rattle.szl.specs.Shards.{shards_in, job_of}
 use Rattle.sz_rounds.specs.Outcomes.{ShardsEnd, emitted, faulted, lost, outcome_of}
@@ -140,7 +140,7 @@ module _ {F : Type 0} (the_files : files.Ghosts F) (types : List TypeShape) (old
   pub unopened : (asked : Option Settings) (text input : List ℕ) (reading : Reading) → readings.IsRead text reading → (saved : List (List ℕ))
       → (merged : Merged) → IsMergedFor asked saved merged
       → AreOfFiles asked (the_files.held old) text input saved → (f : Failure) → status_of f ≢ status.ReadFailed
-      → ((cut : Cut) → IfRead (status_of f) ([] ≡ take (outcome_with types asked reading cut merged).opens (names_behind asked)))
+      → ((cut : Cut) → IfRead (status_of f) ([] ≡ take (outcome_with types asked reading cut merged).opens (later_names asked)))
       → ((cut : Cut) → Decides (Err f) (outcome_with types asked reading cut merged) (Rose (the_files.faults old) (the_files.faults old)))
       → AnswersWith the_files types asked old old (Err f)
   unopened asked text input reading read saved merged is_merged of_files f other none decides = let c = cut_of (frame_asked asked) input in record {
@@ -155,7 +155,7 @@ module _ {F : Type 0} (the_files : files.Ghosts F) (types : List TypeShape) (old
     is_merged = is_merged;
     of_files = of_files;
     decides = decides c.cut;
-    opened = opened_none the_files old (names_behind asked) _ (status_of f) other (none c.cut);
+    opened = opened_none the_files old (later_names asked) _ (status_of f) other (none c.cut);
   }
 
   -- words that are no command line ask for no file
@@ -189,7 +189,7 @@ files_or held _ _ (of_check program proto) text h = h
 module _ {F : Type 0} (the_files : files.Ghosts F) (old new : F) where
   opened_first : (s : Settings) (name : List ℕ) → NamesProgram s name → (most : ℕ) (st : Status) → 1 ≤ most
       → the_files.names new ≡ the_files.names old ++ name ∷ [] → IfRead st (most ≡ 1) → IfRead st (OpensOne the_files old new)
-      → OpensFiles the_files old new (names_behind (Some s)) most st
+      → OpensFiles the_files old new (later_names (Some s)) most st
   opened_first _ _ (of_run s) most st some is all one =
       opened_one the_files old new s.program (s.input ∷ []) most st some is
       (λ read memory. ap (λ n. take n (s.program ∷ s.input ∷ [])) (sym (all read memory))) one
@@ -198,7 +198,7 @@ module _ {F : Type 0} (the_files : files.Ghosts F) (old new : F) where
 
   gained_first : (s : Settings) (name : List ℕ) → NamesProgram s name → (most : ℕ) → 1 ≤ most
       → (the_files.names new ≡ the_files.names old) ⊎ (the_files.names new ≡ the_files.names old ++ name ∷ [])
-      → OpensFiles the_files old new (names_behind (Some s)) most status.NoMemory
+      → OpensFiles the_files old new (later_names (Some s)) most status.NoMemory
   gained_first _ _ (of_run s) most some gains = opened_or_none the_files old new s.program (s.input ∷ []) most some gains
   gained_first _ _ (of_check program proto) most some gains = opened_or_none the_files old new program [] most some gains
 
@@ -207,7 +207,7 @@ module _ {F : Type 0} (the_files : files.Ghosts F) (types : List TypeShape) (s :
   failed_on : (text : List ℕ) (reading : Reading) → readings.IsRead text reading → IfSome (the_files.held old name) (λ bytes. bytes ≡ text)
       → (f : Failure)
       → ((cut : Cut) → Decides (Err f) (outcome_with types (Some s) reading cut (bad 0)) (Rose (the_files.faults old) (the_files.faults new)))
-      → ((cut : Cut) → OpensFiles the_files old new (names_behind (Some s)) (outcome_with types (Some s) reading cut (bad 0)).opens (status_of f))
+      → ((cut : Cut) → OpensFiles the_files old new (later_names (Some s)) (outcome_with types (Some s) reading cut (bad 0)).opens (status_of f))
       → AnswersWith the_files types (Some s) old new (Err f)
   failed_on text reading read holds f decides opened =
       let input = input_or (the_files.held old) s name n in

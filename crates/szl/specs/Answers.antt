@@ -45,7 +45,7 @@ other_tables_line number = codes "other tables in file " ++ (decimal number ++ 1
 abbrev pub tables_limit_line : ℕ → List ℕ
 tables_limit_line number = codes "table limit in file " ++ (decimal number ++ 10 ∷ [])
 
--- the lines of a journal: it is that of another job, or it is damaged behind the gate at a place, or its disk failed
+-- the lines of a journal: it is that of another job, or it is damaged after the gate at a place, or its disk failed
 abbrev pub other_job_line : List ℕ
 other_job_line = codes "other job in journal\n"
 

@@ -31,7 +31,7 @@ use Rattle.szl.specs.ProgramRuns.{failure_of_stop}
 use Rattle.szl.specs.Promise.{OpensFiles}
 use Rattle.szl.specs.Records.{Cut, IsCutInto}
 use Rattle.szl.specs.ResumePromise.{IfSpelled, IfKnown, IsByJournal}
-use Rattle.szl.specs.Resuming.{name_of, source_of, unless_journal, outcome_behind_statics, outcome_behind_read}
+use Rattle.szl.specs.Resuming.{kept_job, source_of, unless_journal, outcome_after_statics, outcome_after_read}
 use Rattle.szl.specs.Shards.{shards_in}
 
 -- why a journal isn't opened
@@ -41,7 +41,7 @@ failure_of_journal (errors.Damaged gate) = failure.JournalDamaged gate
 failure_of_journal errors.Failed = failure.DiskFailed
 failure_of_journal errors.NoMemory = failure.NoMemory
 
--- why a job that goes on behind its journal has no tables
+-- why a job that goes on after its journal has no tables
 abbrev pub failure_of_halt : Halt → Failure
 failure_of_halt (halts.Stopped stop) = failure_of_stop stop
 failure_of_halt (halts.Short gate) = failure.JournalDamaged gate
@@ -61,12 +61,12 @@ pub record AnswersJob {F : Type 0} (the_files : files.Ghosts F) (IsOutcome : Sta
   pub decides : Decides (as_memory answer) outcome (Rose (the_files.faults old) (the_files.faults new))
   pub opened : OpensFiles the_files old new names (most outcome.opens) (status_of_answer (as_memory answer))
 
--- the number of the names behind the first
+-- the number of the names after the first
 abbrev pub but_one : ℕ → ℕ
 but_one n = n - 1
 
--- The outcome of a job behind these rounds of its journal, over an input and a journal that hold these bytes where they tell them
-pub record IsBehindRounds (s : RunSettings) (job : Job) (name : JobBytes) (rounds : List RoundEntry) (told journal : Option (List ℕ)) (outcome : Answer)
+-- The outcome of a job after these rounds of its journal, over an input and a journal that hold these bytes where they tell them
+pub record IsAfterRounds (s : RunSettings) (job : Job) (name : JobBytes) (rounds : List RoundEntry) (told journal : Option (List ℕ)) (outcome : Answer)
     : Type 0 where
   pub input : List ℕ
   pub cut : Cut
@@ -88,14 +88,14 @@ IfBegun s program IsSo = (slots : List Slot) → statics program s.budget ≡ Do
 -- the outcome of a program that can be run and saved
 abbrev pub IsProgramOutcome : RunSettings → Marked → JobBytes → (told journal : Option (List ℕ)) → Status → Answer → Type 0
 IsProgramOutcome s program name told journal status outcome =
-    IsByJournal s (IfBegun s program) name (λ by rest. outcome_behind_statics by rest (statics program s.budget)) told journal (IfKnown status) outcome
+    IsByJournal s (IfBegun s program) name (λ by rest. outcome_after_statics by rest (statics program s.budget)) told journal (IfKnown status) outcome
 
 -- the outcome of what a text is read as, where these types are known
 pub record IsTextOutcome (s : RunSettings) (types : List TypeShape) (text : List ℕ) (name : JobBytes) (told journal : Option (List ℕ)) (status : Status)
     (outcome : Answer) : Type 0 where
   pub reading : Reading
   pub read : IsRead text reading
-  pub by_journal : IsByJournal s (IfSpelled s types reading) name (λ by rest. outcome_behind_read s by rest reading types) told journal (IfKnown status)
+  pub by_journal : IsByJournal s (IfSpelled s types reading) name (λ by rest. outcome_after_read s by rest reading types) told journal (IfKnown status)
       outcome
 
 -- the outcome of the program's file, where the file of types has these bytes and types
@@ -103,4 +103,4 @@ pub record IsFileOutcome {F : Type 0} (the_files : files.Ghosts F) (s : RunSetti
     (old : F) (status : Status) (outcome : Answer) : Type 0 where
   pub text : List ℕ
   pub of_program : IfSome (the_files.held old s.program) (λ bytes. bytes ≡ text)
-  pub of_text : IsTextOutcome s types text (name_of s text proto) (the_files.held old s.input) journal status outcome
+  pub of_text : IsTextOutcome s types text (kept_job s text proto) (the_files.held old s.input) journal status outcome

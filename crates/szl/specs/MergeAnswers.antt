@@ -11,7 +11,7 @@ use Rattle.szl.specs.declared.status.Status.TheVariants as status
 use Rattle.szl.specs.Failing.{status_of}
 use Rattle.szl.specs.declared.failure.Failure.{Failure}
 use Rattle.szl.specs.declared.failure.Failure.TheVariants.{Limit, BadTables, OtherTables, TablesLimit, ReadFailed, NoMemory}
-use Rattle.szl.specs.Merging.{Merged, bad, other, past, MergesFrom, IsMerged, EndsAt, AreHeld, outcome_of_merge, merged_output, most_saved_bytes}
+use Rattle.szl.specs.Merging.{Merged, bad, other, past, MergesFrom, IsMerged, EndsAt, AreBytesOf, outcome_of_merge, merged_output, most_saved_bytes}
 use Rattle.szl.specs.Opening.{Decides, status_of_answer}
 use Rattle.szl.specs.Promise.{OpensFiles}
 
@@ -45,12 +45,12 @@ pub record AddsFile (told : Option (List ℕ)) (before : List SavedState) (rose 
   pub holds : IfSome told (λ held. held ≡ bytes)
   pub tells : TellsFile before bytes rose result
 
--- The answer is that of the outcome, for what the files hold under these names, behind so many files of these states that were merged
+-- The answer is that of the outcome, for what the files hold under these names, after so many files of these states that were merged
 -- already
 pub record AnswersFrom {F : Type 0} (the_files : files.Ghosts F) (before : List SavedState) (names : List (List ℕ)) (save : Bool) (old new : F)
     (answer : Result (List ℕ) Failure) : Type 0 where
   pub bytes : List (List ℕ)
-  pub held : AreHeld (the_files.held old) names bytes
+  pub held : AreBytesOf (the_files.held old) names bytes
   pub end : Merged
   pub merges : MergesFrom before bytes end
   pub decides : Decides answer (outcome_of_merge (length before + length names) save end) (Rose (the_files.faults old) (the_files.faults new))
@@ -76,7 +76,7 @@ status_of_adding (Err failure) = status_of failure
 pub record AnswersMerge {F : Type 0} (the_files : files.Ghosts F) (names : List (List ℕ)) (save : Bool) (old new : F)
     (answer : Result (List ℕ) Failure) : Type 0 where
   pub bytes : List (List ℕ)
-  pub held : AreHeld (the_files.held old) names bytes
+  pub held : AreBytesOf (the_files.held old) names bytes
   pub end : Merged
   pub merged : IsMerged bytes end
   pub decides : Decides answer (outcome_of_merge (length names) save end) (Rose (the_files.faults old) (the_files.faults new))

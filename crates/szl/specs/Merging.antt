@@ -33,7 +33,7 @@ EndsAt number before bytes (bad file) = (file ≡ number) × (length bytes ≤ m
 EndsAt number before bytes (other file) = (file ≡ number) × (length bytes ≤ most_saved_bytes) × IsStopped before bytes OtherTables
 EndsAt number before bytes (past file) = (file ≡ number) × (length bytes ≤ most_saved_bytes) × IsStopped before bytes TablesLimit
 
--- merging the files of these bytes, behind those of the states before them, ends so: at the first file that can't be joined to those before
+-- merging the files of these bytes, after those of the states before them, ends so: at the first file that can't be joined to those before
 -- it, or with what all are together
 abbrev pub MergesFrom : List SavedState → List (List ℕ) → Merged → Type 0
 MergesFrom before [] (together all) = AreTogether before all
@@ -59,10 +59,10 @@ outcome_of_merge count save (other file) = refusal status.OtherTables (other_tab
 outcome_of_merge count save (past file) = refusal status.TablesLimit (tables_limit_line file) file
 
 -- the bytes under each of these names are these, where they are told
-abbrev pub AreHeld : (List ℕ → Option (List ℕ)) → List (List ℕ) → List (List ℕ) → Type 0
-AreHeld held [] [] = ⊤
-AreHeld held (name ∷ names) (bytes ∷ files) = IfSome (held name) (λ told. told ≡ bytes) × AreHeld held names files
-AreHeld held _ _ = ⊥
+abbrev pub AreBytesOf : (List ℕ → Option (List ℕ)) → List (List ℕ) → List (List ℕ) → Type 0
+AreBytesOf held [] [] = ⊤
+AreBytesOf held (name ∷ names) (bytes ∷ files) = IfSome (held name) (λ told. told ≡ bytes) × AreBytesOf held names files
+AreBytesOf held _ _ = ⊥
 
 -- merging the files ends in some way
 pub record HasMerged (files : List (List ℕ)) : Type 0 where

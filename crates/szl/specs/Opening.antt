@@ -21,9 +21,9 @@ use Rattle.szl.specs.Answers.{Answer, Says, usage_line, damaged_line, limit_line
 use Rattle.szl.specs.Answers.{other_job_line, journal_damaged_line}
 use Rattle.szl.specs.Outcome.{outcome_faulted, outcome_lost, outcome_refused}
 use Rattle.szl.specs.Failing.{status_of}
-use Rattle.szl.specs.Outcome.{outcome_of_program, outcome_of_run, outcome_of_check, outcome_with, outcome_behind}
+use Rattle.szl.specs.Outcome.{outcome_of_program, outcome_of_run, outcome_of_check, outcome_with, outcome_after}
 use Rattle.szl.specs.Merging.{Merged}
-use Rattle.szl.specs.Promise.{AreOfFiles, IsMergedFor, OpensFiles, names_behind}
+use Rattle.szl.specs.Promise.{AreOfFiles, IsMergedFor, OpensFiles, later_names}
 use Rattle.szl.specs.ProtoFiles.{IsFileRead, IsOfFile, proto_asked, outcome_bad_file}
 use Rattle.sz_protofile_rules.specs.Types.{TypeShape}
 use Rattle.sz_protofile_laws.specs.Readings.{FileReading}
@@ -93,10 +93,10 @@ pub record AnswersWith {F : Type 0} (the_files : files.Ghosts F) (types : List T
   pub is_merged : IsMergedFor asked saved merged
   pub of_files : AreOfFiles asked (the_files.held old) text input saved
   pub decides : Decides answer (outcome_with types asked reading cut merged) (Rose (the_files.faults old) (the_files.faults new))
-  pub opened : OpensFiles the_files old new (names_behind asked) (outcome_with types asked reading cut merged).opens (status_of_answer answer)
+  pub opened : OpensFiles the_files old new (later_names asked) (outcome_with types asked reading cut merged).opens (status_of_answer answer)
 
--- the answer is that of the outcome behind the file of a name, if there is one
-pub record AnswersBehind {F : Type 0} (the_files : files.Ghosts F) (name : Option (List ℕ)) (asked : Option Settings) (old new : F)
+-- the answer is that of the outcome after the file of a name, if there is one
+pub record AnswersAfter {F : Type 0} (the_files : files.Ghosts F) (name : Option (List ℕ)) (asked : Option Settings) (old new : F)
     (answer : Result (List ℕ) Failure) : Type 0 where
   pub file_bytes : List ℕ
   pub file : FileReading
@@ -112,13 +112,13 @@ pub record AnswersBehind {F : Type 0} (the_files : files.Ghosts F) (name : Optio
   pub merged : Merged
   pub is_merged : IsMergedFor asked saved merged
   pub of_files : AreOfFiles asked (the_files.held old) text input saved
-  pub decides : Decides answer (outcome_behind name file asked reading cut merged) (Rose (the_files.faults old) (the_files.faults new))
-  pub opened : OpensFiles the_files old new (option_to_list name ++ names_behind asked) (outcome_behind name file asked reading cut merged).opens
+  pub decides : Decides answer (outcome_after name file asked reading cut merged) (Rose (the_files.faults old) (the_files.faults new))
+  pub opened : OpensFiles the_files old new (option_to_list name ++ later_names asked) (outcome_after name file asked reading cut merged).opens
       (status_of_answer answer)
 
 -- the answer is that of the outcome, for what the files hold under the names that settings ask for
 abbrev pub Answers : {F : Type 0} → files.Ghosts F → Option Settings → F → F → Result (List ℕ) Failure → Type 0
-Answers the_files asked old new answer = AnswersBehind the_files (proto_asked asked) asked old new answer
+Answers the_files asked old new answer = AnswersAfter the_files (proto_asked asked) asked old new answer
 
 -- The answer is that of an outcome on the records of what the file under the name holds. One file was opened before, so that none is
 -- opened for an outcome that opens one

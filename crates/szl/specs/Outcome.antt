@@ -26,7 +26,7 @@ use Rattle.szl.specs.Savable.{savable}
 use Rattle.szl.specs.Settings.{selftest_run}
 use Rattle.szl.specs.Records.{Cut}
 use Rattle.szl.specs.Merging.{Merged, outcome_of_merge}
-use Rattle.szl.specs.ProtoFiles.{proto_asked, outcome_of_file, behind_file}
+use Rattle.szl.specs.ProtoFiles.{proto_asked, outcome_of_file, after_file}
 use Rattle.sz_protofile_rules.specs.Types.{TypeShape}
 use Rattle.sz_protofile_laws.specs.Readings.{FileReading}
 use Rattle.szl.specs.Shards.{shards_in, job_of}
@@ -112,14 +112,14 @@ outcome_with types (Some (Selftest seed records workers)) reading cut merged = o
 outcome_with types (Some (Merge names save)) reading cut merged = outcome_of_merge (length names) save merged
 outcome_with types _ reading cut merged = refusal status.Usage usage_line 0
 
--- the outcome behind the file of a name, if there is one, which is read so: a file that is refused decides, and else its types are known
-abbrev pub outcome_behind : Option (List ℕ) → FileReading → Option Settings → Reading → Cut → Merged → Answer
-outcome_behind name file asked reading cut merged = behind_file name (outcome_of_file file (λ types. outcome_with types asked reading cut merged))
+-- the outcome after the file of a name, if there is one, which is read so: a file that is refused decides, and else its types are known
+abbrev pub outcome_after : Option (List ℕ) → FileReading → Option Settings → Reading → Cut → Merged → Answer
+outcome_after name file asked reading cut merged = after_file name (outcome_of_file file (λ types. outcome_with types asked reading cut merged))
 
 -- the outcome of settings, from the reading of their `.proto` file, the reading of the program's text, the input, which is cut so, and what
 -- joining files comes to
 abbrev pub outcome_of_settings : Option Settings → FileReading → Reading → Cut → Merged → Answer
-outcome_of_settings asked file reading cut merged = outcome_behind (proto_asked asked) file asked reading cut merged
+outcome_of_settings asked file reading cut merged = outcome_after (proto_asked asked) file asked reading cut merged
 
 -- the outcome of a command line, from its words, the readings of the `.proto` file and of the program's text, the input, which is cut so, and
 -- what joining files comes to

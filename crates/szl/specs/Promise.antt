@@ -14,7 +14,7 @@ use Rattle.sz_words.specs.Settings.{settings_in}
 use Rattle.szl.specs.Judgement.{Reading, IsRead}
 use Rattle.szl.specs.Settings.{frame_asked}
 use Rattle.szl.specs.Records.{Cut, IsCutInto}
-use Rattle.szl.specs.Merging.{Merged, IsMerged, AreHeld}
+use Rattle.szl.specs.Merging.{Merged, IsMerged, AreBytesOf}
 use Rattle.szl.specs.Answers.{Answer, read_failed_line, write_failed_line, no_memory_line}
 use Rattle.szl.specs.ProtoFiles.{IsFileRead, IsOfFile, proto_asked}
 use Rattle.szl.specs.Outcome.{outcome}
@@ -60,16 +60,16 @@ pub record GainsLine {S : Type 0} (the_sink : sink.Ghosts S) (old new : S) (line
   pub appends : Appends (the_sink.taken old) (the_sink.taken new) (take count line)
   pub whole : (length line ≤ count) ⊎ (Rose (the_sink.faults old) (the_sink.faults new) ⊎ Rose (the_sink.refusals old) (the_sink.refusals new))
 
--- the names that settings may open behind a `.proto` file, in order: the program, and then the input of a run; or the files to be joined
-abbrev pub names_behind : Option Settings → List (List ℕ)
-names_behind (Some (Run s)) = s.program ∷ s.input ∷ []
-names_behind (Some (Check program proto)) = program ∷ []
-names_behind (Some (Merge names save)) = names
-names_behind _ = []
+-- the names that settings may open after a `.proto` file, in order: the program, and then the input of a run; or the files to be joined
+abbrev pub later_names : Option Settings → List (List ℕ)
+later_names (Some (Run s)) = s.program ∷ s.input ∷ []
+later_names (Some (Check program proto)) = program ∷ []
+later_names (Some (Merge names save)) = names
+later_names _ = []
 
 -- the names that settings may open, in order: the `.proto` file, if one is asked for, and then the others
 abbrev pub names_asked : Option Settings → List (List ℕ)
-names_asked asked = option_to_list (proto_asked asked) ++ names_behind asked
+names_asked asked = option_to_list (proto_asked asked) ++ later_names asked
 
 -- how many files may have been opened before a call, so that there is room for those that it opens
 abbrev pub most_before : Option Settings → ℕ
@@ -112,7 +112,7 @@ abbrev pub AreOfFiles : Option Settings → (List ℕ → Option (List ℕ)) →
 AreOfFiles (Some (Run s)) held text input saved = IfSome (held s.program) (λ bytes. bytes ≡ text) × IfSome (held s.input) (λ bytes. bytes ≡ input)
 AreOfFiles (Some (Check program proto)) held text input saved = IfSome (held program) (λ bytes. bytes ≡ text)
 AreOfFiles (Some (Selftest seed records workers)) held text input saved = (text ≡ program_text) × (input ≡ file_of seed records)
-AreOfFiles (Some (Merge names save)) held text input saved = AreHeld held names saved
+AreOfFiles (Some (Merge names save)) held text input saved = AreBytesOf held names saved
 AreOfFiles _ held text input saved = ⊤
 
 -- where files are to be joined, it ends so for files of these bytes

@@ -70,6 +70,6 @@ outcome_of_file (bad_file f) go = outcome_bad_file f
 outcome_of_file (with_types types) go = go types
 
 -- the answer, where the file of this name was opened before, if there is one
-abbrev pub behind_file : Option (List ℕ) → Answer → Answer
-behind_file None answer = answer
-behind_file (Some name) answer = record answer { opens = suc answer.opens }
+abbrev pub after_file : Option (List ℕ) → Answer → Answer
+after_file None answer = answer
+after_file (Some name) answer = record answer { opens = suc answer.opens }

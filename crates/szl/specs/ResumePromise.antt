@@ -33,7 +33,7 @@ use Rattle.szl.specs.Outcome.{outcome_of_shards, outcome_of_statics}
 use Rattle.szl.specs.ProtoFiles.{IsFileRead, IsOfFile}
 use Rattle.szl.specs.Promise.{IfRead, IsStatusOf, GainsOutput, IsLeftAlone, GainsLine, OpensFiles, line_of, names_asked}
 use Rattle.szl.specs.Records.{Cut, IsCutInto}
-use Rattle.szl.specs.Resuming.{name_of, source_of, unless_journal, outcome_of_resume}
+use Rattle.szl.specs.Resuming.{kept_job, source_of, unless_journal, outcome_of_resume}
 use Rattle.szl.specs.Savable.{savable}
 use Rattle.szl.specs.Shards.{job_of}
 
@@ -60,9 +60,9 @@ abbrev pub IfRun : RunSettings → FileReading → Reading → (Marked → List 
 IfRun s (with_types types) reading IsSo = IfSpelled s types reading IsSo
 IfRun s file reading IsSo = ⊤
 
--- The answer behind a journal: a shard that decides, or the ending of the input, or an output; two files are opened for it. Where the input and the
+-- The answer after a journal: a shard that decides, or the ending of the input, or an output; two files are opened for it. Where the input and the
 -- journal are told, and the journal is one that calls of the job may find, the answer is that of the run
-pub record IsBehind (s : RunSettings) (IfSo : (Marked → List Slot → Type 0) → Type 0) (name : JobBytes) (input : Option (List ℕ)) (cut : Cut)
+pub record IsRest (s : RunSettings) (IfSo : (Marked → List Slot → Type 0) → Type 0) (name : JobBytes) (input : Option (List ℕ)) (cut : Cut)
     (journal : Option (List ℕ)) (rest : Answer) : Type 0 where
   pub end : ShardsEnd
   pub ending : Ending
@@ -72,7 +72,7 @@ pub record IsBehind (s : RunSettings) (IfSo : (Marked → List Slot → Type 0) 
       → IsFound name (job_of program slots s) (source_of s bytes) held rounds → rest ≡ outcome_of_statics program s cut (Done slots))
 
 -- The outcome by a journal and by an input, where they hold these bytes if they tell them; `outcome_by` has the causes that come before. What the journal
--- is for the job is said where that is known. Where the input or the journal doesn't tell its bytes, of the answer behind the journal its form alone is said
+-- is for the job is said where that is known. Where the input or the journal doesn't tell its bytes, of the answer after the journal its form alone is said
 pub record IsByJournal (s : RunSettings) (IfSo : (Marked → List Slot → Type 0) → Type 0) (name : JobBytes)
     (outcome_by : (Answer → Answer) → Answer → Answer) (told journal : Option (List ℕ)) (Known : Type 0 → Type 0) (outcome : Answer) : Type 0 where
   pub input : List ℕ
@@ -82,7 +82,7 @@ pub record IsByJournal (s : RunSettings) (IfSo : (Marked → List Slot → Type 
   pub standing : Standing
   pub stands : Known (IfSo (λ program slots. IfSome journal (λ held. Stands name (all_tables program) held standing)))
   pub rest : Answer
-  pub behind : IsBehind s IfSo name told cut journal rest
+  pub behind : IsRest s IfSo name told cut journal rest
   pub is : outcome ≡ outcome_by (unless_journal name standing (length input)) rest
 
 -- a disk that failed leaves as much open as want of memory does
@@ -95,7 +95,7 @@ abbrev pub IfKnown : Status → Type 0 → Type 0
 IfKnown status fact = IfRead (free_status status) fact
 
 -- The outcome of a job that is resumed, for the bytes that the files and the disk hold. Where the program or the file of types doesn't tell its bytes, it is
--- as if it held some. Where the input or the disk doesn't, the answer behind the journal has its form alone
+-- as if it held some. Where the input or the disk doesn't, the answer after the journal has its form alone
 pub record IsJobOutcome {F K : Type 0} (the_files : files.Ghosts F) (the_disk : disks.Ghosts K) (s : RunSettings) (status : Status) (files : F) (disk : K)
     (outcome : Answer) : Type 0 where
   pub proto : List ℕ
@@ -106,7 +106,7 @@ pub record IsJobOutcome {F K : Type 0} (the_files : files.Ghosts F) (the_disk : 
   pub reading : Reading
   pub read : IsRead text reading
   pub of_program : IfSome (the_files.held files s.program) (λ bytes. bytes ≡ text)
-  pub by_journal : IsByJournal s (IfRun s file reading) (name_of s text proto) (outcome_of_resume s file reading) (the_files.held files s.input)
+  pub by_journal : IsByJournal s (IfRun s file reading) (kept_job s text proto) (outcome_of_resume s file reading) (the_files.held files s.input)
       (the_disk.bytes disk) (IfKnown status) outcome
 
 -- the status is the outcome's, or one of the four that a device or want of memory brings
@@ -186,7 +186,7 @@ pub record KeepsDisk {K : Type 0} (the_disk : disks.Ghosts K) (s : RunSettings) 
 pub record IsNameFor (s : RunSettings) (name : JobBytes) : Type 0 where
   pub program : List ℕ
   pub proto : List ℕ
-  pub is : name ≡ name_of s program proto
+  pub is : name ≡ kept_job s program proto
 
 -- the file of this name tells that it has these bytes; without a name there are none
 abbrev pub IsToldFile : Option (List ℕ) → (List ℕ → Option (List ℕ)) → List ℕ → Type 0
@@ -200,4 +200,4 @@ pub record KeepsJournal {F K : Type 0} (the_files : files.Ghosts F) (the_disk : 
   pub entries : KeepsEntries the_disk (IsNameFor s) disk new_disk
   pub of_job : (text proto : List ℕ) (file : FileReading) (reading : Reading) → the_files.held files s.program ≡ Some text
       → IsToldFile s.proto (the_files.held files) proto → IsFileRead proto file → IsRead text reading
-      → KeepsDisk the_disk s (IfRun s file reading) (name_of s text proto) (the_files.held files s.input) status disk new_disk
+      → KeepsDisk the_disk s (IfRun s file reading) (kept_job s text proto) (the_files.held files s.input) status disk new_disk

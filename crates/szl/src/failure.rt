@@ -44,7 +44,7 @@ pub enum Failure {
     BadProtoFile(FileFault),
     /// The journal is that of another job.
     OtherJob,
-    /// The journal is damaged behind the gate at this place, or the input is shorter than the round behind that says.
+    /// The journal is damaged after the gate at this place, or the input is shorter than the round after that says.
     JournalDamaged(u64),
     /// The disk of the journal failed.
     DiskFailed,

@@ -43,7 +43,7 @@ pub fn tables_limit_line(alloc: Global, number: u64) -> Result<Vec<u8>, AllocErr
     numbered_line(alloc, b"table limit in file ", number)
 }
 
-/// The line of a journal that is damaged behind the gate at a place, with its newline.
+/// The line of a journal that is damaged after the gate at a place, with its newline.
 pub fn journal_damaged_line(alloc: Global, gate: u64) -> Result<Vec<u8>, AllocError>
     ensures value { IfOk result (λ line. line.items ≡ journal_damaged_line gate) }
 {

@@ -41,7 +41,7 @@ pub fn answer_merge<F: Files>(
     answer_rest(alloc, Merging::new(alloc), 0, names, save, files)
 }
 
-/// The same behind files that were merged already, as many as `done` says.
+/// The same after files that were merged already, as many as `done` says.
 fn answer_rest<F: Files>(
     alloc: Global,
     merging: Merging,

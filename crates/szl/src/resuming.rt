@@ -1,4 +1,4 @@
-//! A job that is resumed: its rounds are kept in a journal, and it goes on behind the last one.
+//! A job that is resumed: its rounds are kept in a journal, and it goes on after the last one.
 ghost use Rattle.std.specs.Prelude.{◌≡◌, ◌<◌, ◌≤◌, ◌^◌, ◌++◌, ◌∷◌, [], ℕ, List, length, map, string_bytes, Some, true, false, IfOk, OnOk, IsErrOf};
 ghost use Rattle.sz_io.specs.Rose.{Rose};
 ghost use Rattle.sz_io.specs.Opened.{KeepsFiles};
@@ -22,13 +22,13 @@ ghost use Rattle.sz_words.specs.Bounds.{HasBounds};
 ghost use Rattle.sz_words.specs.Settings.{settings_in};
 ghost use Rattle.sz_words.specs.declared.settings.Settings.TheVariants.{Resume};
 ghost use Rattle.szl.specs.Judgement.{Reading, IsRead, most_program_bytes};
-ghost use Rattle.szl.specs.JournalRuns.{AnswersJob, IsBehindRounds, IsProgramOutcome, IsTextOutcome, IsFileOutcome, IfBegun, but_one};
+ghost use Rattle.szl.specs.JournalRuns.{AnswersJob, IsAfterRounds, IsProgramOutcome, IsTextOutcome, IsFileOutcome, IfBegun, but_one};
 ghost use Rattle.szl.specs.Opening.{Answers, status_of_answer};
 ghost use Rattle.szl.specs.ProgramRuns.{CanSave, vec_items_of};
 ghost use Rattle.szl.specs.Promise.{AreReadToEnd, most_before};
 ghost use Rattle.szl.specs.ProtoReads.{HaveTypeBytes};
 ghost use Rattle.szl.specs.ResumePromise.{ByCommand, IfSpelled, IsJobOutcome, IsNameFor, KeepsDisk, KeepsEntries, KeepsJob, KeepsJournal, names_on_disk};
-ghost use Rattle.szl.specs.Resuming.{name_of, source_of, triple_of};
+ghost use Rattle.szl.specs.Resuming.{kept_job, source_of, triple_of};
 ghost use Rattle.szl.specs.Saving.{HasSaved, IfSaving};
 
 use crate::answer::{answer_settings, read_program};
@@ -138,7 +138,7 @@ fn resume_with<R: Threads + Sync, F: Files, G: Gate + Sync, K: Disk>(
         (settings.now.program ∷ settings.now.input ∷ []) (λ n. n) files.old files.new (vec_items_of result) }
     ensures end { OnOk result (AreReadToEnd F.Files files.old files.new (settings.now.program ∷ settings.now.input ∷ [])) }
     ensures stopped { (text : List ℕ) (reading : Reading) → F.held files.old settings.now.program ≡ Some text → IsRead text reading
-        → KeepsDisk K.Disk settings.now (IfSpelled settings.now proto.now.types reading) (name_of settings.now text proto.now.bytes.items)
+        → KeepsDisk K.Disk settings.now (IfSpelled settings.now proto.now.types reading) (kept_job settings.now text proto.now.bytes.items)
         (F.held files.old settings.now.input) (status_of_answer (vec_items_of result)) disk.old disk.new }
     ensures entries { KeepsEntries K.Disk (IsNameFor settings.now) disk.old disk.new }
 
@@ -170,12 +170,12 @@ fn resume_text<R: Threads + Sync, F: Files, G: Gate + Sync, K: Disk>(
     requires no_save { settings.now.save ≡ false }
     requires short { length text.now ≤ most_program_bytes }
 
-    ensures value { AnswersJob F.Files (IsTextOutcome settings.now proto.now.types text.now (name_of settings.now text.now proto.now.bytes.items)
+    ensures value { AnswersJob F.Files (IsTextOutcome settings.now proto.now.types text.now (kept_job settings.now text.now proto.now.bytes.items)
         (F.held files.old settings.now.input) (K.bytes disk.old)) (settings.now.input ∷ []) but_one files.old files.new (vec_items_of result) }
     ensures end { OnOk result (ReadToEnd F.Files files.old files.new settings.now.input) }
     ensures names { OnOk result (F.names files.new ≡ F.names files.old ++ settings.now.input ∷ []) }
     ensures stopped { (reading : Reading) → IsRead text.now reading
-        → KeepsDisk K.Disk settings.now (IfSpelled settings.now proto.now.types reading) (name_of settings.now text.now proto.now.bytes.items)
+        → KeepsDisk K.Disk settings.now (IfSpelled settings.now proto.now.types reading) (kept_job settings.now text.now proto.now.bytes.items)
         (F.held files.old settings.now.input) (status_of_answer (vec_items_of result)) disk.old disk.new }
     ensures entries { KeepsEntries K.Disk (IsNameFor settings.now) disk.old disk.new }
 
@@ -225,7 +225,7 @@ fn resume_program<R: Threads + Sync, F: Files, G: Gate + Sync, K: Disk>(
     one_standing();
     let (job, workers) = job_with_workers(alloc, program, settings)?;
     let mut journal = open_journal(alloc, disk, bytes, job.compiled.tables())?;
-    text_behind(
+    text_after(
         rt,
         alloc,
         &job,
@@ -238,8 +238,8 @@ fn resume_program<R: Threads + Sync, F: Files, G: Gate + Sync, K: Disk>(
     )
 }
 
-/// The text of the tables of a job that goes on behind its journal.
-fn text_behind<R: Threads + Sync, F: Files, G: Gate + Sync, K: Disk>(
+/// The text of the tables of a job that goes on after its journal.
+fn text_after<R: Threads + Sync, F: Files, G: Gate + Sync, K: Disk>(
     rt: &R,
     alloc: Global,
     job: &Job,
@@ -259,7 +259,7 @@ fn text_behind<R: Threads + Sync, F: Files, G: Gate + Sync, K: Disk>(
     requires journal { HasJournal job.now journal.old (K.bytes disk.old) }
 
     ensures value { (name : JobBytes) → IsOf name journal.old
-        → AnswersJob F.Files (λ status. IsBehindRounds settings.now job.now name (rounds_of journal.old) (F.held files.old settings.now.input)
+        → AnswersJob F.Files (λ status. IsAfterRounds settings.now job.now name (rounds_of journal.old) (F.held files.old settings.now.input)
         (K.bytes disk.old)) (settings.now.input ∷ []) but_one files.old files.new (vec_items_of result) }
     ensures end { OnOk result (ReadToEnd F.Files files.old files.new settings.now.input) }
     ensures names { OnOk result (F.names files.new ≡ F.names files.old ++ settings.now.input ∷ []) }
@@ -310,7 +310,7 @@ fn job_bytes(
     program: &[u8],
     proto: &[u8],
 ) -> Result<JobBytes, NoMemory>
-    ensures value { IfOk result (λ name. name ≡ name_of settings.now program.now proto.now) }
+    ensures value { IfOk result (λ name. name ≡ kept_job settings.now program.now proto.now) }
     ensures low { IfOk result (λ name. name.skip < 2 ^ 32) }
 {
     Ok(JobBytes {

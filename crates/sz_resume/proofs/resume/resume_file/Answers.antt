@@ -4,7 +4,7 @@ use Rattle.sz_journal.specs.Journal.{rounds_of}
 use Rattle.sz_resume.proofs.LeaveLemmas.{leaves_nothing, entries_none}
 use Rattle.sz_resume.proofs.WayLemmas.{spelled_at}
 use Rattle.sz_resume.proofs.TurnLemmas.{found_stands}
-use Rattle.sz_resume.proofs.StartLemmas.{behind_dropped, long_input, found_is, tells_all, tells_long}
+use Rattle.sz_resume.proofs.StartLemmas.{after_dropped, long_input, found_is, tells_all, tells_long}
 use Rattle.sz_resume.proofs.resume.resume_file.Goals as goal
 
 -- nothing was written
@@ -42,30 +42,30 @@ returns-then-not-all-clause-entries g c name held rests is_told j =
 
 -- the rest is run
 pub returns-clause-short_keeps : goal.returns-clause-short_keeps
-returns-clause-short_keeps g c gate is = absurd (c.run_behind.ensures.long gate is)
+returns-clause-short_keeps g c gate is = absurd (c.run_after.ensures.long gate is)
 
 pub returns-clause-value : goal.returns-clause-value
 returns-clause-value g c input held name told read found =
     let s = c.args.settings.now in
-    c.run_behind.ensures.value input
-    (behind_dropped c.in_ok-all.ensures.value c.if-not-all.false c.done_behind-done.ensures.value c.rounds.ensures.value told)
+    c.run_after.ensures.value input
+    (after_dropped c.in_ok-all.ensures.value c.if-not-all.false c.done_after-done.ensures.value c.rounds.ensures.value told)
     (found_stands c.args.job.now (record { frame = s.frame; most = s.shard; bytes = input }) name held (rounds_of c.args.journal.now) found)
 
 pub returns-clause-short : goal.returns-clause-short
 returns-clause-short g c =
-    tells_all c.args.journal.now (g.F.Files.left c.args.files.now c.args.file) c.run_behind.result
+    tells_all c.args.journal.now (g.F.Files.left c.args.files.now c.args.file) c.run_after.result
     (λ input told.
-    tells_long c.args.journal.now input c.run_behind.result c.run_behind.ensures.long
-    (long_input c.in_ok-all.ensures.value c.if-not-all.false c.done_behind-done.ensures.value c.rounds.ensures.value told))
+    tells_long c.args.journal.now input c.run_after.result c.run_after.ensures.long
+    (long_input c.in_ok-all.ensures.value c.if-not-all.false c.done_after-done.ensures.value c.rounds.ensures.value told))
 
 pub returns-clause-stopped : goal.returns-clause-stopped
 returns-clause-stopped g c input held name told rests is_told j found =
-    c.run_behind.ensures.stopped input held name
-    (behind_dropped c.in_ok-all.ensures.value c.if-not-all.false c.done_behind-done.ensures.value c.rounds.ensures.value told) rests is_told j
+    c.run_after.ensures.stopped input held name
+    (after_dropped c.in_ok-all.ensures.value c.if-not-all.false c.done_after-done.ensures.value c.rounds.ensures.value told) rests is_told j
     (found_is rests.read j found)
 
 pub returns-clause-ended : goal.returns-clause-ended
 returns-clause-ended g c input held name told rests j found =
-    c.run_behind.ensures.ended input held name
-    (behind_dropped c.in_ok-all.ensures.value c.if-not-all.false c.done_behind-done.ensures.value c.rounds.ensures.value told) rests j
+    c.run_after.ensures.ended input held name
+    (after_dropped c.in_ok-all.ensures.value c.if-not-all.false c.done_after-done.ensures.value c.rounds.ensures.value told) rests j
     (found_is rests.read j found)

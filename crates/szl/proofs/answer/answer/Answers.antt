@@ -5,7 +5,7 @@ use Rattle.szl.specs.Opening.{Answers}
 use Rattle.szl.specs.Promise.{AreReadToEnd, names_asked}
 use Rattle.szl.specs.ProgramRuns.{vec_items_of}
 use Rattle.szl.specs.Saving.{HasSaved, IfSaving}
-use Rattle.szl.proofs.BehindLemmas.{words_fail}
+use Rattle.szl.proofs.AfterLemmas.{words_fail}
 use Rattle.szl.proofs.answer.answer.Goals as goal
 
 -- the words have no settings

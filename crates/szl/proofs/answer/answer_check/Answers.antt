@@ -1,10 +1,10 @@
 use Rattle.std.proofs.lemmas.Result.{err_from_is_err_and}
 use Rattle.std.proofs.Common.{Some}
 use Rattle.sz_words.specs.declared.settings.Settings.TheVariants.{Check}
-use Rattle.szl.specs.Promise.{names_behind}
+use Rattle.szl.specs.Promise.{later_names}
 use Rattle.szl.specs.ProgramRuns.{vec_items_of}
 use Rattle.szl.proofs.SettingsLemmas.{of_check}
-use Rattle.szl.proofs.BehindLemmas.{file_fails, file_known, behind_read, when_both}
+use Rattle.szl.proofs.AfterLemmas.{file_fails, file_known, after_read, when_both}
 use Rattle.szl.proofs.answer.answer_check.Goals as goal
 
 -- the file has no types
@@ -31,6 +31,6 @@ returns-clause-end g c =
     let program = c.args.program.now in
     let proto = c.args.proto.now in
     when_both c.check_named.result
-    (λ end. behind_read g.F.Files proto (names_behind (Some (Check program proto))) c.args.files.now c.types_named.new.files c.check_named.new.files
+    (λ end. after_read g.F.Files proto (later_names (Some (Check program proto))) c.args.files.now c.types_named.new.files c.check_named.new.files
     c.in_ok-types.types c.in_ok-types.ensures.value c.in_ok-types.ensures.kept c.check_named.ensures.kept c.in_ok-types.ensures.end end)
     c.check_named.ensures.end

@@ -1,10 +1,10 @@
 use Rattle.std.proofs.lemmas.Result.{err_from_is_err_and}
 use Rattle.sz_words.specs.declared.settings.Settings.TheVariants.{Run}
-use Rattle.szl.specs.Promise.{names_behind}
+use Rattle.szl.specs.Promise.{later_names}
 use Rattle.std.proofs.Common.{Some}
 use Rattle.szl.specs.ProgramRuns.{vec_items_of}
 use Rattle.szl.proofs.SettingsLemmas.{of_run}
-use Rattle.szl.proofs.BehindLemmas.{file_fails, file_known, behind_read, when_both}
+use Rattle.szl.proofs.AfterLemmas.{file_fails, file_known, after_read, when_both}
 use Rattle.szl.proofs.SavedLemmas.{map_ok, types_save}
 use Rattle.szl.proofs.answer.answer_run.Goals as goal
 
@@ -28,7 +28,7 @@ pub returns-clause-end : goal.returns-clause-end
 returns-clause-end g c =
     let s = c.args.settings.now in
     when_both c.run_with.result
-    (λ end. behind_read g.F.Files s.proto (names_behind (Some (Run s))) c.args.files.now c.types_named.new.files c.run_with.new.files c.in_ok-types.types
+    (λ end. after_read g.F.Files s.proto (later_names (Some (Run s))) c.args.files.now c.types_named.new.files c.run_with.new.files c.in_ok-types.types
     c.in_ok-types.ensures.value c.in_ok-types.ensures.kept c.run_with.ensures.kept c.in_ok-types.ensures.end end)
     c.run_with.ensures.end
 

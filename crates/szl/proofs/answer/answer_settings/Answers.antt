@@ -8,7 +8,7 @@ use Rattle.szl.specs.Promise.{AreReadToEnd, names_asked}
 use Rattle.szl.specs.ProgramRuns.{vec_items_of}
 use Rattle.szl.specs.Saving.{HasSaved, IfSaving}
 use Rattle.sz_words.specs.Bounds.{IsBounded}
-use Rattle.szl.proofs.BehindLemmas.{no_file}
+use Rattle.szl.proofs.AfterLemmas.{no_file}
 use Rattle.szl.proofs.SelftestLemmas.{selftest_answered, nothing_opened}
 use Rattle.szl.proofs.SettingsLemmas.{when_ok, no_disk}
 use Rattle.szl.proofs.WordsLemmas.{merge_answered}

@@ -1,4 +1,4 @@
--- The files behind those that were merged already: none, or a first one and the rest.
+-- The files after those that were merged already: none, or a first one and the rest.
 use Rattle.std.proofs.Common.{◌≡◌, ◌≤◌, ◌∙◌, ◌-◌, ◌+◌, ◌∷◌, suc, length, take, drop, sym, ap, subst, arith}
 use Rattle.std.specs.Prelude.{Err}
 use Rattle.std.proofs.lemmas.Result.{err_from_is_err_and}

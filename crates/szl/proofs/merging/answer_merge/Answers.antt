@@ -1,4 +1,4 @@
--- All files are those behind none.
+-- All files are those after none.
 use Rattle.std.proofs.Common.{[], refl}
 use Rattle.szl.specs.ProgramRuns.{vec_items_of}
 use Rattle.szl.proofs.MergeLemmas.{all_answered}

@@ -5,7 +5,7 @@ use Rattle.szl.specs.Failing.{status_of}
 use Rattle.szl.specs.Opening.{status_of_answer}
 use Rattle.szl.specs.ProgramRuns.{vec_items_of}
 use Rattle.szl.proofs.ResumeLemmas.{types_fail, file_resumed, nothing_left, file_keeps}
-use Rattle.szl.proofs.BehindLemmas.{behind_read, when_both}
+use Rattle.szl.proofs.AfterLemmas.{after_read, when_both}
 use Rattle.szl.proofs.KeepLemmas.{not_done}
 use Rattle.szl.proofs.resuming.answer_resume.Goals as goal
 
@@ -43,6 +43,6 @@ pub returns-clause-end : goal.returns-clause-end
 returns-clause-end g c =
     let s = c.args.settings.now in
     when_both c.resume_with.result
-    (λ end. behind_read g.F.Files s.proto (s.program ∷ s.input ∷ []) c.args.files.now c.file_named.new.files c.resume_with.new.files
+    (λ end. after_read g.F.Files s.proto (s.program ∷ s.input ∷ []) c.args.files.now c.file_named.new.files c.resume_with.new.files
     c.in_ok-proto.proto.types c.in_ok-proto.ensures.value c.in_ok-proto.ensures.kept c.resume_with.ensures.kept c.in_ok-proto.ensures.end end)
     c.resume_with.ensures.end

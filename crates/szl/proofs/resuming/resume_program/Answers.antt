@@ -1,4 +1,4 @@
--- The job is made, its journal is opened, and it goes on behind that.
+-- The job is made, its journal is opened, and it goes on after that.
 use Rattle.std.proofs.Common.{◌≡◌, [], ◌∷◌, refl, sym, ap, ◌∙◌, subst, Some, List, ℕ}
 use Rattle.std.specs.Prelude.{Ok}
 use Rattle.std.proofs.lemmas.Result.{err_from_is_err_and}
@@ -10,13 +10,13 @@ use Rattle.sz_journal.specs.Journal.{rounds_of, KeepsRounds}
 use Rattle.sz_journal.specs.Opening.{FitsAnswer, FitsError, IsKept}
 use Rattle.sz_gates.specs.Crashing.{LeavesOnly}
 use Rattle.szl.specs.Failing.{status_of}
-use Rattle.szl.specs.JournalRuns.{failure_of_journal, AnswersJob, IsBehindRounds, but_one}
+use Rattle.szl.specs.JournalRuns.{failure_of_journal, AnswersJob, IsAfterRounds, but_one}
 use Rattle.szl.specs.Opening.{status_of_answer}
 use Rattle.szl.specs.ProgramRuns.{vec_items_of}
 use Rattle.szl.specs.Resuming.{source_of}
 use Rattle.szl.specs.Shards.{job_of}
-use Rattle.szl.proofs.JobLemmas.{no_job, no_journal, behind_journal, job_keeps, is_journal, keeps_unopened}
-use Rattle.szl.proofs.KeepLemmas.{keeps_none, not_done, entries_untouched, entries_opened, entries_behind}
+use Rattle.szl.proofs.JobLemmas.{no_job, no_journal, after_journal, job_keeps, is_journal, keeps_unopened}
+use Rattle.szl.proofs.KeepLemmas.{keeps_none, not_done, entries_untouched, entries_opened, entries_after}
 use Rattle.szl.proofs.resuming.resume_program.Goals as goal
 
 -- a static faults, or there was no memory for the job
@@ -74,21 +74,21 @@ returns-in_err-journal-clause-stopped g c =
     })
 
 -- the job can be run, and has this journal
-pub text_behind-requires-clause-job : goal.text_behind-requires-clause-job
-text_behind-requires-clause-job g c κs within = c.in_ok-job.ensures.value.can_run
+pub text_after-requires-clause-job : goal.text_after-requires-clause-job
+text_after-requires-clause-job g c κs within = c.in_ok-job.ensures.value.can_run
 
-pub text_behind-requires-clause-attempts : goal.text_behind-requires-clause-attempts
-text_behind-requires-clause-attempts g c κs within = c.in_ok-job.ensures.value.attempts
+pub text_after-requires-clause-attempts : goal.text_after-requires-clause-attempts
+text_after-requires-clause-attempts g c κs within = c.in_ok-job.ensures.value.attempts
 
-pub text_behind-requires-clause-workers : goal.text_behind-requires-clause-workers
-text_behind-requires-clause-workers g c κs within = c.in_ok-job.ensures.value.are_workers
+pub text_after-requires-clause-workers : goal.text_after-requires-clause-workers
+text_after-requires-clause-workers g c κs within = c.in_ok-job.ensures.value.are_workers
 
-pub text_behind-requires-clause-spelled : goal.text_behind-requires-clause-spelled
-text_behind-requires-clause-spelled g c κs within =
+pub text_after-requires-clause-spelled : goal.text_after-requires-clause-spelled
+text_after-requires-clause-spelled g c κs within =
     subst HaveSpelling (sym (ap (λ (j : Job). all_tables j.compiled) c.in_ok-job.ensures.value.is_job_of.same)) (c.requires.can_save refl)
 
-pub text_behind-requires-clause-journal : goal.text_behind-requires-clause-journal
-text_behind-requires-clause-journal g c κs within =
+pub text_after-requires-clause-journal : goal.text_after-requires-clause-journal
+text_after-requires-clause-journal g c κs within =
     let name = c.args.bytes.now in
     let journal = c.in_ok-journal.journal in
     let job = c.in_ok-job.job in
@@ -104,7 +104,7 @@ text_behind-requires-clause-journal g c κs within =
           (subst (λ ds. AreRounds name ds (rounds_of journal)) c.tables.ensures.value c.in_ok-journal.ensures.are);
     }
 
--- the job goes on behind its journal
+-- the job goes on after its journal
 pub returns-clause-value : goal.returns-clause-value
 returns-clause-value g c =
     let s = c.args.settings.now in
@@ -114,17 +114,17 @@ returns-clause-value g c =
     let job = c.in_ok-job.job in
     let journal = c.in_ok-journal.journal in
     let old = c.args.files.now in
-    let new = c.text_behind.new.files in
+    let new = c.text_after.new.files in
     let mid = g.K.Disk.bytes c.open_journal.new.disk in
     let may = g.K.Disk.may_leave c.open_journal.new.disk in
-    let answer = vec_items_of c.text_behind.result in
+    let answer = vec_items_of c.text_after.result in
     let decls = c.tables.ensures.value ∙ ap (λ (j : Job). all_tables j.compiled) made.is_job_of.same in
-    behind_journal c.one_standing.ensures.law s c.requires.bounds.shard c.requires.no_save program made.slots made.means name c.requires.low job.twice journal
+    after_journal c.one_standing.ensures.law s c.requires.bounds.shard c.requires.no_save program made.slots made.means name c.requires.low job.twice journal
     g.F.Files old new (g.K.Disk.bytes c.args.disk.now) mid may answer
     (λ held told. subst (λ ds. FitsAnswer name ds held (Ok journal)) decls (c.in_ok-journal.ensures.causes held told))
     (λ held told. subst (λ ds. KeepsRounds mid may name ds (rounds_of journal)) decls (c.in_ok-journal.ensures.ok held told))
-    (subst (λ (j : Job). AnswersJob g.F.Files (λ st. IsBehindRounds s j name (rounds_of journal) (g.F.Files.held old s.input) mid) (s.input ∷ []) but_one old new
-    answer) made.is_job_of.same (c.text_behind.ensures.value name c.in_ok-journal.ensures.is_of))
+    (subst (λ (j : Job). AnswersJob g.F.Files (λ st. IsAfterRounds s j name (rounds_of journal) (g.F.Files.held old s.input) mid) (s.input ∷ []) but_one old new
+    answer) made.is_job_of.same (c.text_after.ensures.value name c.in_ok-journal.ensures.is_of))
 
 pub returns-clause-stopped : goal.returns-clause-stopped
 returns-clause-stopped g c =
@@ -137,8 +137,8 @@ returns-clause-stopped g c =
     let journal = c.in_ok-journal.journal in
     let disk = c.args.disk.now in
     let mid = c.open_journal.new.disk in
-    let new = c.text_behind.new.disk in
-    let st = status_of_answer (vec_items_of c.text_behind.result) in
+    let new = c.text_after.new.disk in
+    let st = status_of_answer (vec_items_of c.text_after.result) in
     let decls = c.tables.ensures.value ∙ ap (λ (j : Job). all_tables j.compiled) same in
     let here : (bytes : List ℕ) → g.K.Disk.bytes disk ≡ Some bytes
     → KeepsRounds (g.K.Disk.bytes mid) (g.K.Disk.may_leave mid) name (all_tables job.compiled) (rounds_of journal)
@@ -149,11 +149,11 @@ returns-clause-stopped g c =
     (subst (λ ds. AreRounds name ds (rounds_of journal)) c.tables.ensures.value c.in_ok-journal.ensures.are) in
     record {
       untouched = λ none. absurd (none made.slots made.means);
-      entries = entries_behind g.K.Disk name (all_tables job.compiled) disk mid
+      entries = entries_after g.K.Disk name (all_tables job.compiled) disk mid
           (λ held rests at. subst (λ ds. LeavesOnly g.K.Disk.time g.K.Disk.left_since disk mid (IsKept name ds held)) c.tables.ensures.value
           (c.open_journal.ensures.leaves held rests at))
           journal new (λ held told. subst (λ ds. FitsAnswer name ds held (Ok journal)) c.tables.ensures.value (c.in_ok-journal.ensures.causes held told)) here
-          c.open_journal.ensures.told (λ held rests at. c.text_behind.ensures.entries name held rests at is);
+          c.open_journal.ensures.told (λ held rests at. c.text_after.ensures.entries name held rests at is);
       found = λ input held told rests slots begun before found. (
           let keeps = subst (λ ds. KeepsRounds (g.K.Disk.bytes mid) (g.K.Disk.may_leave mid) name ds (rounds_of journal)) decls
           (c.in_ok-journal.ensures.ok held rests.read) in
@@ -162,5 +162,5 @@ returns-clause-stopped g c =
           g.K.Disk job made.slots made.means made.is_job_of input held before st disk mid new found fits keeps c.open_journal.ensures.told
           (λ at. subst (λ ds. LeavesOnly g.K.Disk.time g.K.Disk.left_since disk mid (IsKept name ds held)) decls
           (c.open_journal.ensures.leaves held rests at))
-          refl (λ now. c.text_behind.ensures.stopped input keeps.held name told keeps.rests is now));
+          refl (λ now. c.text_after.ensures.stopped input keeps.held name told keeps.rests is now));
     }

@@ -11,7 +11,7 @@ use Rattle.szl.specs.JournalRuns.{AnswersJob, IsProgramOutcome, IfBegun, but_one
 use Rattle.szl.specs.Opening.{status_of_answer}
 use Rattle.szl.specs.ProgramRuns.{vec_items_of}
 use Rattle.szl.specs.ResumePromise.{IsNameFor, KeepsDisk}
-use Rattle.szl.specs.Resuming.{name_of}
+use Rattle.szl.specs.Resuming.{kept_job}
 use Rattle.szl.proofs.ResumeLemmas.{text_unread, program_refused, no_memory_for, program_resumed, nothing_kept, text_keeps}
 use Rattle.szl.proofs.KeepLemmas.{not_done, entries_untouched, entries_named}
 use Rattle.szl.proofs.resuming.resume_text.Goals as goal
@@ -22,7 +22,7 @@ returns-in_err-tree-clause-value g c =
     let p = err_from_is_err_and c.from_residual.result c.from_residual.ensures.1 in
     let s = c.args.settings.now in
     let text = c.args.text.now in
-    rw (p.1, p.2) (text_unread g.F.Files s c.args.proto.now.types text (name_of s text c.args.proto.now.bytes.items) c.args.files.now
+    rw (p.1, p.2) (text_unread g.F.Files s c.args.proto.now.types text (kept_job s text c.args.proto.now.bytes.items) c.args.files.now
     (g.K.Disk.bytes c.args.disk.now) c.in_err-tree.field-0.0 c.in_err-tree.ensures.refused)
 
 pub returns-in_err-tree-clause-stopped : goal.returns-in_err-tree-clause-stopped
@@ -31,7 +31,7 @@ returns-in_err-tree-clause-stopped g c reading read =
     let s = c.args.settings.now in
     let f = c.in_err-tree.field-0.0 in
     let disk = c.args.disk.now in
-    rw (p.1, p.2) (nothing_kept g.K.Disk s c.args.proto.now.types (name_of s c.args.text.now c.args.proto.now.bytes.items)
+    rw (p.1, p.2) (nothing_kept g.K.Disk s c.args.proto.now.types (kept_job s c.args.text.now c.args.proto.now.bytes.items)
     (g.F.Files.held c.args.files.now s.input) (status_of f) reading disk (not_done f) (g.met.K.Disk.only_now disk))
 
 pub returns-in_err-tree-clause-entries : goal.returns-in_err-tree-clause-entries
@@ -44,7 +44,7 @@ returns-in_err-program-clause-value g c =
     let p = err_from_is_err_and c.from_residual-in_err-program.result c.from_residual-in_err-program.ensures.1 in
     let s = c.args.settings.now in
     let text = c.args.text.now in
-    rw (p.1, p.2) (program_refused g.F.Files s c.args.proto.now.types text (name_of s text c.args.proto.now.bytes.items) c.args.files.now
+    rw (p.1, p.2) (program_refused g.F.Files s c.args.proto.now.types text (kept_job s text c.args.proto.now.bytes.items) c.args.files.now
     (g.K.Disk.bytes c.args.disk.now) (program_of c.in_ok-tree.tree) c.requires.short c.in_ok-tree.ensures.found c.in_err-program.field-0.0
     c.in_err-program.ensures.refused)
 
@@ -54,7 +54,7 @@ returns-in_err-program-clause-stopped g c reading read =
     let s = c.args.settings.now in
     let f = c.in_err-program.field-0.0 in
     let disk = c.args.disk.now in
-    rw (p.1, p.2) (nothing_kept g.K.Disk s c.args.proto.now.types (name_of s c.args.text.now c.args.proto.now.bytes.items)
+    rw (p.1, p.2) (nothing_kept g.K.Disk s c.args.proto.now.types (kept_job s c.args.text.now c.args.proto.now.bytes.items)
     (g.F.Files.held c.args.files.now s.input) (status_of f) reading disk (not_done f) (g.met.K.Disk.only_now disk))
 
 pub returns-in_err-program-clause-entries : goal.returns-in_err-program-clause-entries
@@ -67,7 +67,7 @@ returns-in_err-bytes-clause-value g c =
     let p = err_from_is_err_and c.from_residual-in_err-bytes.result c.from_residual-in_err-bytes.ensures.1 in
     let s = c.args.settings.now in
     let text = c.args.text.now in
-    rw (p.1, p.2) (no_memory_for g.F.Files s c.args.proto.now.types text (name_of s text c.args.proto.now.bytes.items) c.args.files.now
+    rw (p.1, p.2) (no_memory_for g.F.Files s c.args.proto.now.types text (kept_job s text c.args.proto.now.bytes.items) c.args.files.now
     (g.K.Disk.bytes c.args.disk.now) (spells (program_of c.in_ok-tree.tree)) (c.requires.short, c.in_ok-tree.ensures.found))
 
 pub returns-in_err-bytes-clause-stopped : goal.returns-in_err-bytes-clause-stopped
@@ -75,7 +75,7 @@ returns-in_err-bytes-clause-stopped g c reading read =
     let p = err_from_is_err_and c.from_residual-in_err-bytes.result c.from_residual-in_err-bytes.ensures.1 in
     let s = c.args.settings.now in
     let disk = c.args.disk.now in
-    rw (p.1, p.2) (nothing_kept g.K.Disk s c.args.proto.now.types (name_of s c.args.text.now c.args.proto.now.bytes.items)
+    rw (p.1, p.2) (nothing_kept g.K.Disk s c.args.proto.now.types (kept_job s c.args.text.now c.args.proto.now.bytes.items)
     (g.F.Files.held c.args.files.now s.input) status.NoMemory reading disk (λ e. cc) (g.met.K.Disk.only_now disk))
 
 pub returns-in_err-bytes-clause-entries : goal.returns-in_err-bytes-clause-entries
@@ -102,8 +102,8 @@ returns-clause-value g c =
     let program = marked c.in_ok-program.program s.ignore_undefs in
     let answer = vec_items_of c.resume_program.result in
     let journal = g.K.Disk.bytes c.args.disk.now in
-    let name_is = subst (λ (b : List ℕ). c.in_ok-bytes.bytes ≡ name_of s text b) c.deref.ensures.value c.in_ok-bytes.ensures.value in
-    program_resumed g.F.Files s c.args.proto.now.types text (name_of s text c.args.proto.now.bytes.items) old journal (program_of c.in_ok-tree.tree)
+    let name_is = subst (λ (b : List ℕ). c.in_ok-bytes.bytes ≡ kept_job s text b) c.deref.ensures.value c.in_ok-bytes.ensures.value in
+    program_resumed g.F.Files s c.args.proto.now.types text (kept_job s text c.args.proto.now.bytes.items) old journal (program_of c.in_ok-tree.tree)
     c.requires.short c.in_ok-tree.ensures.found new program answer c.in_ok-program.ensures.found
     (subst (λ n. AnswersJob g.F.Files (IsProgramOutcome s program n (g.F.Files.held old s.input) journal) (s.input ∷ []) but_one old new answer) name_is
     c.resume_program.ensures.value)
@@ -118,8 +118,8 @@ returns-clause-stopped g c reading read =
     let told = g.F.Files.held old s.input in
     let disk = c.args.disk.now in
     let new = c.resume_program.new.disk in
-    let name = name_of s text c.args.proto.now.bytes.items in
-    let name_is = subst (λ (b : List ℕ). c.in_ok-bytes.bytes ≡ name_of s text b) c.deref.ensures.value c.in_ok-bytes.ensures.value in
+    let name = kept_job s text c.args.proto.now.bytes.items in
+    let name_is = subst (λ (b : List ℕ). c.in_ok-bytes.bytes ≡ kept_job s text b) c.deref.ensures.value c.in_ok-bytes.ensures.value in
     text_keeps g.K.Disk s c.args.proto.now.types name told st text (program_of c.in_ok-tree.tree) program reading disk new c.requires.short
     c.in_ok-tree.ensures.found c.in_ok-program.ensures.found read
     (subst (λ n. KeepsDisk g.K.Disk s (IfBegun s program) n told st disk new) name_is c.resume_program.ensures.stopped)
@@ -128,6 +128,6 @@ pub returns-clause-entries : goal.returns-clause-entries
 returns-clause-entries g c =
     let s = c.args.settings.now in
     let text = c.args.text.now in
-    let name_is = subst (λ (b : List ℕ). c.in_ok-bytes.bytes ≡ name_of s text b) c.deref.ensures.value c.in_ok-bytes.ensures.value in
+    let name_is = subst (λ (b : List ℕ). c.in_ok-bytes.bytes ≡ kept_job s text b) c.deref.ensures.value c.in_ok-bytes.ensures.value in
     entries_named g.K.Disk s c.in_ok-bytes.bytes text c.args.proto.now.bytes.items name_is c.args.disk.now c.resume_program.new.disk
     c.resume_program.ensures.stopped.entries

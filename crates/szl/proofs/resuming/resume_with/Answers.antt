@@ -11,7 +11,7 @@ use Rattle.szl.specs.Opening.{ReadsText, past_program, ran_out, status_of_answer
 use Rattle.szl.specs.ProgramRuns.{vec_items_of}
 use Rattle.szl.specs.Promise.{AreReadToEnd}
 use Rattle.szl.specs.ResumePromise.{IfSpelled, IsNameFor, KeepsDisk}
-use Rattle.szl.specs.Resuming.{name_of}
+use Rattle.szl.specs.Resuming.{kept_job}
 use Rattle.szl.proofs.ResumeLemmas.{file_unread, text_resumed, nothing_kept, text_told}
 use Rattle.szl.proofs.SettingsLemmas.{both_when_ok, both_read}
 use Rattle.szl.proofs.KeepLemmas.{not_done, entries_untouched}
@@ -38,7 +38,7 @@ returns-in_err-text-clause-stopped g c text reading told read =
     let s = c.args.settings.now in
     let f = c.in_err-text.field-0.0 in
     let disk = c.args.disk.now in
-    rw (p.1, p.2) (nothing_kept g.K.Disk s c.args.proto.now.types (name_of s text c.args.proto.now.bytes.items)
+    rw (p.1, p.2) (nothing_kept g.K.Disk s c.args.proto.now.types (kept_job s text c.args.proto.now.bytes.items)
     (g.F.Files.held c.args.files.now s.input) (status_of f) reading disk (not_done f) (g.met.K.Disk.only_now disk))
 
 pub returns-in_err-text-clause-entries : goal.returns-in_err-text-clause-entries
@@ -63,7 +63,7 @@ returns-clause-value g c =
     c.as_str.ensures.value c.in_ok-text.ensures.text)
     (c.in_ok-text.ensures.names ∙ ap (λ n. files.names old ++ n ∷ []) c.as_str.ensures.value)
     c.in_ok-text.ensures.kept c.resume_text.ensures.kept (c.in_ok-text.ensures.opened (λ e. cc) (λ e. cc))
-    (subst (λ (t : List ℕ). AnswersJob files (IsTextOutcome s types t (name_of s t proto) (files.held mid s.input) journal) (s.input ∷ []) but_one mid new
+    (subst (λ (t : List ℕ). AnswersJob files (IsTextOutcome s types t (kept_job s t proto) (files.held mid s.input) journal) (s.input ∷ []) but_one mid new
     answer) c.deref.ensures.value c.resume_text.ensures.value)
 
 pub returns-clause-stopped : goal.returns-clause-stopped
@@ -80,9 +80,9 @@ returns-clause-stopped g c text reading told read =
     (subst (λ (n : List ℕ). ReadsText (files.held old n) most_program_bytes past_program (Rose (files.faults old) (files.faults mid))
     (Ok c.in_ok-text.text.items)) c.as_str.ensures.value c.in_ok-text.ensures.text) in
     let here : c.deref.result.now ≡ text = c.deref.ensures.value ∙ same in
-    subst (λ h. KeepsDisk g.K.Disk s (IfSpelled s types reading) (name_of s text proto) h st c.args.disk.now c.resume_text.new.disk)
+    subst (λ h. KeepsDisk g.K.Disk s (IfSpelled s types reading) (kept_job s text proto) h st c.args.disk.now c.resume_text.new.disk)
     (c.in_ok-text.ensures.kept.held_same s.input)
-    (subst (λ (t : List ℕ). KeepsDisk g.K.Disk s (IfSpelled s types reading) (name_of s t proto) (files.held mid s.input) st c.args.disk.now
+    (subst (λ (t : List ℕ). KeepsDisk g.K.Disk s (IfSpelled s types reading) (kept_job s t proto) (files.held mid s.input) st c.args.disk.now
     c.resume_text.new.disk) here
     (c.resume_text.ensures.stopped reading (subst (λ (t : List ℕ). IsRead t reading) (sym here) read)))
 

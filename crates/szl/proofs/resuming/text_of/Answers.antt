@@ -1,6 +1,6 @@
 -- The text of what is saved of emits is theirs.
 use Rattle.std.proofs.Common.{◌∙◌}
-use Rattle.szl.proofs.BehindRoundsLemmas.{saved_text}
+use Rattle.szl.proofs.AfterRoundsLemmas.{saved_text}
 use Rattle.szl.proofs.SavedLemmas.{map_ok}
 use Rattle.szl.proofs.resuming.text_of.Goals as goal
 

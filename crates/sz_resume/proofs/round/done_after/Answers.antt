@@ -1,7 +1,7 @@
 use Rattle.sz_resume.proofs.RoundLemmas.{can_go_on, few_passed}
-use Rattle.sz_resume.proofs.round.done_behind.Goals as goal
+use Rattle.sz_resume.proofs.round.done_after.Goals as goal
 
--- the input can be run on behind rounds of a job
+-- the input can be run on after rounds of a job
 pub returns-clause-can : goal.returns-clause-can
 returns-clause-can c =
     λ name decls are. can_go_on name decls c.args.rounds.now c.last_progress-progress.result c.last_progress-progress.ensures.value are

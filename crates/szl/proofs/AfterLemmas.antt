@@ -20,13 +20,13 @@ use Rattle.szl.specs.declared.failure.Failure.{Failure}
 use Rattle.szl.specs.declared.failure.Failure.TheVariants as failure
 use Rattle.szl.specs.Answers.{Answer}
 use Rattle.szl.specs.Failing.{status_of}
-use Rattle.szl.specs.Opening.{status_of_answer, Decides, AnswersWith, AnswersBehind, Answers}
-use Rattle.szl.specs.Outcome.{outcome_with, outcome_behind}
+use Rattle.szl.specs.Opening.{status_of_answer, Decides, AnswersWith, AnswersAfter, Answers}
+use Rattle.szl.specs.Outcome.{outcome_with, outcome_after}
 use Rattle.szl.specs.Judgement.{Reading}
 use Rattle.szl.specs.Judging.{failure_of_words}
 use Rattle.szl.specs.Merging.{Merged, bad}
-use Rattle.szl.specs.Promise.{OpensFiles, names_behind, AreOfFiles, AreReadToEnd, IfTold}
-use Rattle.szl.specs.ProtoFiles.{IsFileRead, proto_asked, behind_file}
+use Rattle.szl.specs.Promise.{OpensFiles, later_names, AreOfFiles, AreReadToEnd, IfTold}
+use Rattle.szl.specs.ProtoFiles.{IsFileRead, proto_asked, after_file}
 use Rattle.szl.specs.ProtoReads.{ReadsTypes, GivesTypes}
 use Rattle.szl.specs.Records.{Cut}
 use Rattle.szl.specs.Settings.{frame_asked}
@@ -40,30 +40,30 @@ use Rattle.szl.proofs.SettingsLemmas.{NamesProgram, of_run, of_check, answered, 
 use Rattle.szl.proofs.WordsLemmas.{no_memory_for}
 
 -- one more file is opened before an answer, which says the same
-says_behind : (name : List ℕ) (o : Answer) {status : Status} {output line : List ℕ}
+says_after : (name : List ℕ) (o : Answer) {status : Status} {output line : List ℕ}
     → o ≡ record { status = status; output = output; line = line; opens = o.opens }
-    → behind_file (Some name) o ≡ record { status = status; output = output; line = line; opens = suc o.opens }
-says_behind name o is = ap (λ (a : Answer). record a { opens = suc o.opens }) is
+    → after_file (Some name) o ≡ record { status = status; output = output; line = line; opens = suc o.opens }
+says_after name o is = ap (λ (a : Answer). record a { opens = suc o.opens }) is
 
-pub decides_behind : (name : List ℕ) (answer : Result (List ℕ) Failure) (o : Answer) (rose : Type 0) → Decides answer o rose
-    → Decides answer (behind_file (Some name) o) rose
-decides_behind name (Ok output) o rose h = says_behind name o h
-decides_behind name (Err failure.ReadFailed) o rose h = h
-decides_behind name (Err failure.WriteFailed) o rose h = h
-decides_behind name (Err failure.NoMemory) o rose h = h
-decides_behind name (Err failure.Usage) o rose h = says_behind name o h
-decides_behind name (Err (failure.Refused r)) o rose h = says_behind name o h
-decides_behind name (Err (failure.Faulted n f)) o rose h = says_behind name o h
-decides_behind name (Err (failure.Lost n)) o rose h = says_behind name o h
-decides_behind name (Err (failure.Damaged b)) o rose h = says_behind name o h
-decides_behind name (Err (failure.Limit b)) o rose h = says_behind name o h
-decides_behind name (Err (failure.BadTables n)) o rose h = says_behind name o h
-decides_behind name (Err (failure.OtherTables n)) o rose h = says_behind name o h
-decides_behind name (Err (failure.TablesLimit n)) o rose h = says_behind name o h
-decides_behind name (Err failure.OtherJob) o rose h = says_behind name o h
-decides_behind name (Err (failure.JournalDamaged n)) o rose h = says_behind name o h
-decides_behind name (Err failure.DiskFailed) o rose h = absurd h
-decides_behind name (Err (failure.BadProtoFile f)) o rose h = says_behind name o h
+pub decides_after : (name : List ℕ) (answer : Result (List ℕ) Failure) (o : Answer) (rose : Type 0) → Decides answer o rose
+    → Decides answer (after_file (Some name) o) rose
+decides_after name (Ok output) o rose h = says_after name o h
+decides_after name (Err failure.ReadFailed) o rose h = h
+decides_after name (Err failure.WriteFailed) o rose h = h
+decides_after name (Err failure.NoMemory) o rose h = h
+decides_after name (Err failure.Usage) o rose h = says_after name o h
+decides_after name (Err (failure.Refused r)) o rose h = says_after name o h
+decides_after name (Err (failure.Faulted n f)) o rose h = says_after name o h
+decides_after name (Err (failure.Lost n)) o rose h = says_after name o h
+decides_after name (Err (failure.Damaged b)) o rose h = says_after name o h
+decides_after name (Err (failure.Limit b)) o rose h = says_after name o h
+decides_after name (Err (failure.BadTables n)) o rose h = says_after name o h
+decides_after name (Err (failure.OtherTables n)) o rose h = says_after name o h
+decides_after name (Err (failure.TablesLimit n)) o rose h = says_after name o h
+decides_after name (Err failure.OtherJob) o rose h = says_after name o h
+decides_after name (Err (failure.JournalDamaged n)) o rose h = says_after name o h
+decides_after name (Err failure.DiskFailed) o rose h = absurd h
+decides_after name (Err (failure.BadProtoFile f)) o rose h = says_after name o h
 
 -- the bytes that files hold for settings that name a program are those that they hold later
 held_before : (held later : List ℕ → Option (List ℕ)) → ((name : List ℕ) → later name ≡ held name) → (s : Settings) (name : List ℕ) → NamesProgram s name
@@ -74,16 +74,16 @@ held_before held later same _ _ (of_run s) text input saved h = (
 )
 held_before held later same _ _ (of_check program proto) text input saved h = subst (λ o. IfSome o (λ bytes. bytes ≡ text)) (same program) h
 
--- an outcome behind a file is no bad command line
-other_behind : (file_name : List ℕ) (file : FileReading) (s : Settings) (name : List ℕ) → NamesProgram s name → (reading : Reading) (cut : Cut)
+-- an outcome after a file is no bad command line
+other_after : (file_name : List ℕ) (file : FileReading) (s : Settings) (name : List ℕ) → NamesProgram s name → (reading : Reading) (cut : Cut)
     (merged : Merged)
-    → (outcome_behind (Some file_name) file (Some s) reading cut merged).status ≢ status.Usage
-other_behind file_name (bad_file f) s name n reading cut merged = λ e. cc
-other_behind file_name (with_types types) s name n reading cut merged = (answered types s name n reading cut merged).other
+    → (outcome_after (Some file_name) file (Some s) reading cut merged).status ≢ status.Usage
+other_after file_name (bad_file f) s name n reading cut merged = λ e. cc
+other_after file_name (with_types types) s name n reading cut merged = (answered types s name n reading cut merged).other
 
 module _ {F : Type 0} (the_files : files.Ghosts F) (asked : Option Settings) (old new : F) (answer : Result (List ℕ) Failure) where
   -- no file is asked for
-  pub no_file : AnswersWith the_files [] asked old new answer → AnswersBehind the_files None asked old new answer
+  pub no_file : AnswersWith the_files [] asked old new answer → AnswersAfter the_files None asked old new answer
   no_file a = record {
     file_bytes = [];
     file = with_types [];
@@ -104,10 +104,10 @@ module _ {F : Type 0} (the_files : files.Ghosts F) (asked : Option Settings) (ol
   }
 
 -- memory ran out before a file was opened
-pub nothing_behind : {F : Type 0} (the_files : files.Ghosts F) (name : Option (List ℕ)) (asked : Option Settings) (old : F)
-    → AnswersWith the_files [] asked old old (Err failure.NoMemory) → AnswersBehind the_files name asked old old (Err failure.NoMemory)
-nothing_behind the_files None asked old a = no_file the_files asked old old (Err failure.NoMemory) a
-nothing_behind the_files (Some name) asked old a =
+pub nothing_after : {F : Type 0} (the_files : files.Ghosts F) (name : Option (List ℕ)) (asked : Option Settings) (old : F)
+    → AnswersWith the_files [] asked old old (Err failure.NoMemory) → AnswersAfter the_files name asked old old (Err failure.NoMemory)
+nothing_after the_files None asked old a = no_file the_files asked old old (Err failure.NoMemory) a
+nothing_after the_files (Some name) asked old a =
     let bytes = unwrap_or (the_files.held old name) [] in
     let r = every_file_is_read bytes in
     record {
@@ -126,7 +126,7 @@ nothing_behind the_files (Some name) asked old a =
       is_merged = a.is_merged;
       of_files = a.of_files;
       decides = tt;
-      opened = opened_none the_files old (name ∷ names_behind asked) _ status.NoMemory (λ e. cc) (λ read memory. absurd (memory refl));
+      opened = opened_none the_files old (name ∷ later_names asked) _ status.NoMemory (λ e. cc) (λ read memory. absurd (memory refl));
     }
 
 -- words without settings
@@ -136,17 +136,17 @@ words_fail the_files old words words_errors.Usage none =
     subst (λ asked. Answers the_files asked old old (Err failure.Usage)) (sym (none refl))
     (no_file the_files None old old (Err failure.Usage) (no_settings the_files [] old))
 words_fail the_files old words words_errors.NoMemory none =
-    nothing_behind the_files (proto_asked (settings_in words)) (settings_in words) old (no_memory_for the_files [] old (settings_in words) (joins_few words))
+    nothing_after the_files (proto_asked (settings_in words)) (settings_in words) old (no_memory_for the_files [] old (settings_in words) (joins_few words))
 
 module _ {F : Type 0} (the_files : files.Ghosts F) (s : Settings) (name : List ℕ) (n : NamesProgram s name) (old : F) where
   -- the file couldn't be read, or is refused
   failed_file : (file_name : List ℕ) (new : F) (f : Failure) (r : ReadsTypes the_files file_name old new (Err f)) (file : FileReading)
       → IsFileRead r.bytes file
-      → ((reading : Reading) (cut : Cut) → Decides (Err f) (outcome_behind (Some file_name) file (Some s) reading cut (bad 0))
+      → ((reading : Reading) (cut : Cut) → Decides (Err f) (outcome_after (Some file_name) file (Some s) reading cut (bad 0))
       (Rose (the_files.faults old) (the_files.faults new)))
-      → ((reading : Reading) (cut : Cut) → OpensFiles the_files old new (file_name ∷ names_behind (Some s))
-      (outcome_behind (Some file_name) file (Some s) reading cut (bad 0)).opens (status_of f))
-      → AnswersBehind the_files (Some file_name) (Some s) old new (Err f)
+      → ((reading : Reading) (cut : Cut) → OpensFiles the_files old new (file_name ∷ later_names (Some s))
+      (outcome_after (Some file_name) file (Some s) reading cut (bad 0)).opens (status_of f))
+      → AnswersAfter the_files (Some file_name) (Some s) old new (Err f)
   failed_file file_name new f r file read decides opened =
       let text = unwrap_or (the_files.held old name) [] in
       let t = every_text_is_read text in
@@ -172,26 +172,26 @@ module _ {F : Type 0} (the_files : files.Ghosts F) (s : Settings) (name : List �
       }
 
   opens_some : (file_name : List ℕ) (file : FileReading) (reading : Reading) (cut : Cut)
-      → 1 ≤ (outcome_behind (Some file_name) file (Some s) reading cut (bad 0)).opens
+      → 1 ≤ (outcome_after (Some file_name) file (Some s) reading cut (bad 0)).opens
   opens_some file_name file reading cut = omega arith
 
   pub file_fails : (file_name : Option (List ℕ)) (new : F) (f : Failure) → GivesTypes the_files file_name old new (Err f)
-      → AnswersBehind the_files file_name (Some s) old new (Err f)
+      → AnswersAfter the_files file_name (Some s) old new (Err f)
   file_fails None new f r = let e = r.1 in absurd (cc)
   file_fails (Some file_name) new (failure.BadProtoFile f) r =
       failed_file file_name new (failure.BadProtoFile f) r (bad_file f) r.tells (λ reading cut. refl)
-      (λ reading cut. opened_one the_files old new file_name (names_behind (Some s)) 1 status.BadProtoFile (omega arith) r.gained
+      (λ reading cut. opened_one the_files old new file_name (later_names (Some s)) 1 status.BadProtoFile (omega arith) r.gained
       (λ read memory. refl) r.opened)
   file_fails (Some file_name) new failure.ReadFailed r =
       let g = every_file_is_read r.bytes in
       failed_file file_name new failure.ReadFailed r g.file g.read
-      (λ reading cut. (r.tells, other_behind file_name g.file s name n reading cut (bad 0)))
-      (λ reading cut. opened_one the_files old new file_name (names_behind (Some s)) _ status.ReadFailed (opens_some file_name g.file reading cut) r.gained
+      (λ reading cut. (r.tells, other_after file_name g.file s name n reading cut (bad 0)))
+      (λ reading cut. opened_one the_files old new file_name (later_names (Some s)) _ status.ReadFailed (opens_some file_name g.file reading cut) r.gained
       (λ read memory. absurd (read refl)) r.opened)
   file_fails (Some file_name) new failure.NoMemory r =
       let g = every_file_is_read r.bytes in
       failed_file file_name new failure.NoMemory r g.file g.read (λ reading cut. tt)
-      (λ reading cut. opened_or_none the_files old new file_name (names_behind (Some s)) _ (opens_some file_name g.file reading cut) r.gained)
+      (λ reading cut. opened_or_none the_files old new file_name (later_names (Some s)) _ (opens_some file_name g.file reading cut) r.gained)
   file_fails (Some file_name) new failure.Usage r = absurd r.tells
   file_fails (Some file_name) new (failure.Refused x) r = absurd r.tells
   file_fails (Some file_name) new (failure.Faulted k f) r = absurd r.tells
@@ -211,7 +211,7 @@ module _ {F : Type 0} (the_files : files.Ghosts F) (s : Settings) (name : List �
       → GivesTypes the_files file_name old mid (Ok types)
       → KeepsFiles the_files.held the_files.left the_files.given the_files.faults old mid
       → KeepsFiles the_files.held the_files.left the_files.given the_files.faults mid new
-      → AnswersWith the_files types (Some s) mid new answer → AnswersBehind the_files file_name (Some s) old new answer
+      → AnswersWith the_files types (Some s) mid new answer → AnswersAfter the_files file_name (Some s) old new answer
   file_known None mid new types answer r kept after a =
       no_file the_files (Some s) old new answer
       (subst (λ ts. AnswersWith the_files ts (Some s) old new answer) (same types r.1)
@@ -237,10 +237,10 @@ module _ {F : Type 0} (the_files : files.Ghosts F) (s : Settings) (name : List �
         merged = a.merged;
         is_merged = a.is_merged;
         of_files = held_before (the_files.held old) (the_files.held mid) kept.held_same s name n a.text a.input a.saved a.of_files;
-        decides = decides_behind file_name answer o _ (decides_since answer o _ _ (rose_later _ _ _ kept.faults_later) a.decides);
-        opened = opened_then the_files old mid new file_name (names_behind (Some s)) (suc o.opens) (status_of_answer answer) (omega arith) r.gained kept after
+        decides = decides_after file_name answer o _ (decides_since answer o _ _ (rose_later _ _ _ kept.faults_later) a.decides);
+        opened = opened_then the_files old mid new file_name (later_names (Some s)) (suc o.opens) (status_of_answer answer) (omega arith) r.gained kept after
             (r.opened (λ e. cc) (λ e. cc))
-            (subst (λ k. OpensFiles the_files mid new (names_behind (Some s)) k (status_of_answer answer)) (sym less) a.opened);
+            (subst (λ k. OpensFiles the_files mid new (later_names (Some s)) k (status_of_answer answer)) (sym less) a.opened);
       }
 
 -- ---- files at their ends
@@ -319,14 +319,14 @@ then_read {F} the_files name names old mid new named kept later r1 rest = record
         (rest.told file (not_given file e) given))
 
 -- the `.proto` file, if one is named, was read to its end, and then the others
-pub behind_read : {F : Type 0} (the_files : files.Ghosts F) (file_name : Option (List ℕ)) (names : List (List ℕ)) (old mid new : F) (types : List TypeShape)
+pub after_read : {F : Type 0} (the_files : files.Ghosts F) (file_name : Option (List ℕ)) (names : List (List ℕ)) (old mid new : F) (types : List TypeShape)
     → GivesTypes the_files file_name old mid (Ok types)
     → KeepsFiles the_files.held the_files.left the_files.given the_files.faults old mid
     → KeepsFiles the_files.held the_files.left the_files.given the_files.faults mid new
     → IfSome file_name (λ name. ReadToEnd the_files old mid name) → AreReadToEnd the_files mid new names
     → AreReadToEnd the_files old new (option_to_list file_name ++ names)
-behind_read the_files None names old mid new types r kept later first rest = subst (λ m. AreReadToEnd the_files m new names) r.0 rest
-behind_read the_files (Some name) names old mid new types r kept later first rest = then_read the_files name names old mid new r.gained kept later first rest
+after_read the_files None names old mid new types r kept later first rest = subst (λ m. AreReadToEnd the_files m new names) r.0 rest
+after_read the_files (Some name) names old mid new types r kept later first rest = then_read the_files name names old mid new r.gained kept later first rest
 
 pub when_both : {T E P Q : Type 0} (r : Result T E) → (P → Q) → OnOk r P → OnOk r Q
 when_both (Ok value) f p = f p

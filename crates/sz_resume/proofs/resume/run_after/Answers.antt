@@ -16,7 +16,7 @@ use Rattle.sz_resume.proofs.LeaveLemmas.{leaves_nothing, entries_none, entries_b
 use Rattle.sz_resume.proofs.NumberLemmas.{small_more}
 use Rattle.sz_resume.proofs.TurnLemmas.{found_stands, stands_more}
 use Rattle.sz_resume.proofs.WayLemmas.{rest_told, way_starts, can_read, way_filled, few_first, has_next, way_over, way_ends, way_holds, way_halts, way_told, way_rises, way_on, way_unread, not_short, not_disk, on_any, spelled_at, keeps_at, so_not, way_leaves, none_not}
-use Rattle.sz_resume.proofs.resume.run_behind.Goals as goal
+use Rattle.sz_resume.proofs.resume.run_after.Goals as goal
 
 -- nothing was read
 pub loop-intake-init : goal.loop-intake-init
@@ -46,7 +46,7 @@ loop-intake-init g c =
 pub fill_round-requires-clause-can_read : goal.fill_round-requires-clause-can_read
 fill_round-requires-clause-can_read g c = can_read c.loop-intake.invariant.behind
 
--- what stands behind the rounds
+-- what stands after the rounds
 pub ended-requires-clause-are : goal.ended-requires-clause-are
 ended-requires-clause-are g c =
     let j = c.requires.journal in (j.name, (c.loop-intake.invariant.journal_is j.name j.is).are)

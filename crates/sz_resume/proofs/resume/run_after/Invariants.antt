@@ -10,8 +10,8 @@ use Rattle.sz_journal.specs.Journal.{rounds_of, KeepsRounds}
 use Rattle.sz_resume.specs.Standing.{Stands}
 use Rattle.sz_resume.specs.Stops.{AreSmall, LeavesRounds, SpellsMore}
 use Rattle.sz_resume.specs.Runs.{IsJournalOf}
-use Rattle.sz_resume.specs.Turns.{AllStand, IsBehind, rest_from}
-use Rattle.sz_resume.proofs.resume.run_behind.Given as goal
+use Rattle.sz_resume.specs.Turns.{AllStand, IsAfter, rest_from}
+use Rattle.sz_resume.proofs.resume.run_after.Given as goal
 
 -- the rounds before the records at hand are the journal's
 abbrev pub invariant-loop-intake : goal.invariant-loop-intake
@@ -19,7 +19,7 @@ invariant-loop-intake g l = record {
   given : IsTrue (g.F.Files.given l.files l.file);
   room : 0 < length l.buffer;
   rises : (last_progress (rounds_of l.fn.journal)).bytes ≤ (last_progress (rounds_of l.journal)).bytes;
-  behind : IsBehind l.job l.settings.frame l.settings.shard (rounds_of l.journal) l.intake
+  behind : IsAfter l.job l.settings.frame l.settings.shard (rounds_of l.journal) l.intake
       (rest_from ((last_progress (rounds_of l.journal)).bytes - (last_progress (rounds_of l.fn.journal)).bytes) (g.F.Files.left l.fn.files l.file))
       (g.F.Files.left l.files l.file);
   journal_is : (name : JobBytes) → IsJournalOf name l.job l.fn.journal (g.K.Disk.bytes l.fn.disk) → IsJournalOf name l.job l.journal (g.K.Disk.bytes l.disk);

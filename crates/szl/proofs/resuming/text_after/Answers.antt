@@ -1,4 +1,4 @@
--- The input is opened, and run on behind the rounds of the journal.
+-- The input is opened, and run on after the rounds of the journal.
 use Rattle.std.proofs.Common.{[], refl, ap, ◌∙◌, subst, arith}
 use Rattle.std.specs.Prelude.{Err, Ok, IfSome, IsSome}
 use Rattle.std.proofs.lemmas.Result.{err_from_is_err_and}
@@ -11,11 +11,11 @@ use Rattle.szl.specs.Failing.{status_of}
 use Rattle.szl.specs.JournalRuns.{failure_of_halt}
 use Rattle.szl.specs.ProgramRuns.{failure_of_opening}
 use Rattle.szl.specs.Resuming.{source_of}
-use Rattle.szl.proofs.BehindRoundsLemmas.{unopened, no_memory, halted, texts, gate_of}
+use Rattle.szl.proofs.AfterRoundsLemmas.{unopened, no_memory, halted, texts, gate_of}
 use Rattle.szl.proofs.FileLemmas.{rose_since, keeps_opened, opens_one, read_to_end}
 use Rattle.szl.proofs.KeepLemmas.{keeps_none, keeps_stopped, keeps_ended, not_done, rounds_untouched}
 use Rattle.szl.proofs.OpenedLemmas.{opened_one}
-use Rattle.szl.proofs.resuming.text_behind.Goals as goal
+use Rattle.szl.proofs.resuming.text_after.Goals as goal
 
 -- the file couldn't be opened
 pub returns-in_err-file-clause-value : goal.returns-in_err-file-clause-value

@@ -1,4 +1,4 @@
--- What a job answers behind the rounds of its journal, and what it leaves of the journal.
+-- What a job answers after the rounds of its journal, and what it leaves of the journal.
 use Rattle.std.proofs.Common.{◌≡◌, ◌≢◌, ℕ, zero, suc, ◌+◌, ◌-◌, ◌*◌, ◌<◌, ◌≤◌, Bool, true, false, List, [], ◌∷◌, ◌++◌, length, take, Option, Some, None}
 use Rattle.std.proofs.Common.{refl, sym, ap, ◌∙◌, subst, arith, inl, ltb-true, ltb-false, append-nil}
 use Rattle.std.specs.Prelude.{IfSome, unwrap_or, replicate, nat_lt, Result, Ok, Err, if◌then◌else◌}
@@ -48,8 +48,8 @@ use Rattle.szl.specs.Promise.{OpensFiles}
 use Rattle.szl.specs.ProgramRuns.{failure_of_opening}
 use Rattle.szl.specs.Records.{Cut, IsCutInto}
 use Rattle.szl.specs.Shards.{shards_in, shard_sizes}
-use Rattle.szl.specs.Resuming.{last_gate, damaged_behind, unless_journal, source_of}
-use Rattle.szl.specs.JournalRuns.{failure_of_halt, as_memory, AnswersJob, IsBehindRounds, but_one}
+use Rattle.szl.specs.Resuming.{last_gate, damaged_after, unless_journal, source_of}
+use Rattle.szl.specs.JournalRuns.{failure_of_halt, as_memory, AnswersJob, IsAfterRounds, but_one}
 use Rattle.szl.proofs.AnswerLemmas.{cut_of, fault_is_numbered, no_usage}
 use Rattle.szl.proofs.OpeningLemmas.{holds_or}
 use Rattle.szl.proofs.OpenedLemmas.{opened_one, opened_or_none}
@@ -93,13 +93,13 @@ pub record OpensBoth (a : Answer) : Type 0 where
   pub two : a.opens ≡ 2
   pub other : a.status ≢ status.Usage
 
-pub both_if : (b : Bool) (gate : ℕ) (rest : Answer) → OpensBoth rest → OpensBoth (if b then damaged_behind gate 2 else rest)
+pub both_if : (b : Bool) (gate : ℕ) (rest : Answer) → OpensBoth rest → OpensBoth (if b then damaged_after gate 2 else rest)
 both_if true gate rest both = record { two = refl; other = λ e. cc }
 both_if false gate rest both = both
 
-pub both_behind : (write : List EmitDatum → List ℕ) (ending : Ending) (end : ShardsEnd)
+pub both_after : (write : List EmitDatum → List ℕ) (ending : Ending) (end : ShardsEnd)
     → OpensBoth (record (outcome_of_shards write ending end) { opens = 2 })
-both_behind write ending end = record { two = refl; other = no_usage write ending end }
+both_after write ending end = record { two = refl; other = no_usage write ending end }
 
 -- ---- the input's length
 
@@ -167,7 +167,7 @@ module _ {F : Type 0} (the_files : files.Ghosts F) (s : RunSettings) (job : Job)
   rose = Rose (the_files.faults old) (the_files.faults new)
 
   abbrev Answered : Result (List ℕ) Failure → Type 0
-  Answered answer = AnswersJob the_files (λ status. IsBehindRounds s job name rounds told journal) (s.input ∷ []) but_one old new answer
+  Answered answer = AnswersJob the_files (λ status. IsAfterRounds s job name rounds told journal) (s.input ∷ []) but_one old new answer
 
   abbrev Opened : Result (List ℕ) Failure → Type 0
   Opened answer = OpensFiles the_files old new (s.input ∷ []) 1 (status_of_answer (as_memory answer))
@@ -195,7 +195,7 @@ module _ {F : Type 0} (the_files : files.Ghosts F) (s : RunSettings) (job : Job)
       let is = opens_both (tables_text (all_tables job.compiled)) c.cut.ending (run_end c.cut) (run_numbered c.cut) in
       let outcome = unless_journal name (Spelled rounds) (length input) rest in
       let both = both_if (nat_lt (length input) (last_progress rounds).bytes) (last_gate name rounds) rest
-      (subst OpensBoth (sym is) (both_behind _ c.cut.ending (run_end c.cut))) in
+      (subst OpensBoth (sym is) (both_after _ c.cut.ending (run_end c.cut))) in
       record {
         outcome = outcome;
         of = record {
@@ -241,9 +241,9 @@ module _ {F : Type 0} (the_files : files.Ghosts F) (s : RunSettings) (job : Job)
       let c = cut_of s.frame input in
       let rest = run_rest c.cut in
       let less = is_short (length input) (last_progress rounds).bytes (short_or told (last_progress rounds).bytes some short) in
-      let is = ap (λ b. if b then damaged_behind (last_gate name rounds) 2 else rest) less ∙ ap (λ g. damaged_behind g 2) (sym is_gate) in
+      let is = ap (λ b. if b then damaged_after (last_gate name rounds) 2 else rest) less ∙ ap (λ g. damaged_after g 2) (sym is_gate) in
       record {
-        outcome = damaged_behind gate 2;
+        outcome = damaged_after gate 2;
         of = record {
           input = input;
           cut = c.cut;
@@ -290,7 +290,7 @@ module _ {F : Type 0} (the_files : files.Ghosts F) (s : RunSettings) (job : Job)
           is = refl;
           of_run = λ bytes held t j found.
               of_run c.cut bytes held t j found (subst (λ (i : List ℕ). IsCutInto s.frame i c.cut) (ap (λ o. unwrap_or o (replicate (last_progress rounds).bytes 0)) t) c.is_cut);
-          outcome_is = sym (ap (λ b. if b then damaged_behind (last_gate name rounds) 2 else rest) more);
+          outcome_is = sym (ap (λ b. if b then damaged_after (last_gate name rounds) 2 else rest) more);
         };
         decides = decides;
         opened = opened;
