@@ -11,10 +11,10 @@ ghost use Rattle.sz_check_names.specs.Keeping.{floor_of, place_of, placed, sight
 ghost use Rattle.sz_check_names.specs.Written.{shape_in};
 
 use crate::error::JudgeError;
+use crate::field_names::{is_new, one_block};
 use crate::meaning::{Meaning, Means};
 use crate::number::small;
 use crate::site::Site;
-use crate::taken::{is_new, one_block};
 use crate::waiting::beside;
 use crate::written::{NamedTypes, Written};
 use std::alloc::{AllocError, Global};

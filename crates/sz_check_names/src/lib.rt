@@ -3,13 +3,13 @@
 #![tactic(auto)]
 
 mod error;
+mod field_names;
 mod kind;
 mod known;
 mod meaning;
 mod number;
 mod site;
 mod sort;
-mod taken;
 mod types;
 mod waiting;
 mod written;

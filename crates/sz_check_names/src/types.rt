@@ -12,10 +12,10 @@ ghost use Rattle.sz_check_names.specs.Written.{shape_in, field_in};
 ghost use Rattle.sz_check_names.specs.Outcome.{Judges};
 
 use crate::error::JudgeError;
+use crate::field_names::{TakenNames, TakenNumbers};
 use crate::known::Known;
 use crate::meaning::Means;
 use crate::site::Site;
-use crate::taken::{TakenNames, TakenNumbers};
 use crate::waiting::beside;
 use crate::written::{NamedTypes, Written, WrittenField};
 use std::alloc::Global;

@@ -10,8 +10,8 @@ use Rattle.sz_types.specs.declared.frame.Frame.TheVariants.{Lines, Delimited}
 use Rattle.sz_wire.specs.Varint.{varint_at}
 use Rattle.sz_records.specs.declared.ending.Ending.TheVariants.{Whole, Damaged, Limit}
 use Rattle.sz_records.specs.declared.limits.FrameLimits.{FrameLimits}
-use Rattle.sz_records.specs.declared.front.Front.{Front}
-use Rattle.sz_records.specs.declared.front.Front.TheVariants as fronts
+use Rattle.sz_records.specs.declared.record_at.Front.{Front}
+use Rattle.sz_records.specs.declared.record_at.Front.TheVariants as fronts
 use Rattle.sz_records.specs.Fronts.{IsCounted}
 use Rattle.sz_records.specs.Cutting.{record_of, stopped, unfinished, by_limits, line_len, line_standing}
 use Rattle.sz_records.specs.Cutting.{sized_standing, length_standing, frame_standing, standing}

@@ -1,7 +1,7 @@
 -- What the code finds where a record begins.
 use Rattle.std.specs.Prelude.{ℕ, ◌-◌, ◌<◌, ◌≤◌, List, take, drop}
-use Rattle.sz_records.specs.declared.front.Front.{Front}
-use Rattle.sz_records.specs.declared.front.Front.TheVariants as fronts
+use Rattle.sz_records.specs.declared.record_at.Front.{Front}
+use Rattle.sz_records.specs.declared.record_at.Front.TheVariants as fronts
 use Rattle.sz_records.specs.Cutting.{Standing, record_of, stopped, unfinished}
 
 -- what was found in these bytes

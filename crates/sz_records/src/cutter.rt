@@ -4,8 +4,8 @@ ghost use Rattle.std.specs.Prelude.{◌≡◌, ◌≤◌, drop, length, OnErr, I
 
 use crate::NoMemory;
 use crate::ending::Ending;
-use crate::front::{Front, found_at, rest};
 use crate::limits::FrameLimits;
+use crate::record_at::{Front, found_at, rest};
 use crate::records::Records;
 use sz_types::Frame;
 

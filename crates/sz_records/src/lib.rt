@@ -4,11 +4,11 @@
 mod cutter;
 mod ending;
 mod framer;
-mod front;
 mod laid;
 mod laws;
 mod limits;
 mod places;
+mod record_at;
 mod records;
 mod shard;
 

@@ -8,7 +8,7 @@ ghost use Rattle.sz_total.specs.Joining.{GainsRoom, LooksTheSame, BeginsWithSum,
 ghost use Rattle.sz_total.specs.Joining.{MayTakeUnder, AreAlike, AreReady, TakesOne, JoinsEntries};
 
 use crate::aggregate::{Aggregate, is_sum, merge_into, reserve_for};
-use crate::lists::Lists;
+use crate::index_lists::Lists;
 use indexmap::map::Entry;
 use sz_flat::FlatList;
 use sz_tabs::NoMemory;

@@ -3,10 +3,10 @@
 
 mod aggregate;
 mod boxed;
+mod index_lists;
 mod indexed;
 mod joining;
 mod laws;
-mod lists;
 mod one_table;
 mod total;
 

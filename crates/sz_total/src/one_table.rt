@@ -8,9 +8,9 @@ ghost use Rattle.sz_total.specs.OneTable.{table_shown, GainsEmit, ChangesRoomAlo
 ghost use Rattle.sz_total.specs.Short.{HasShortParts};
 ghost use Rattle.sz_total.specs.Weights.{HasItsWeights};
 
+use crate::index_lists::{Lists, all_rows, no_lists, take_emit};
 use crate::indexed::TableRows;
 use crate::joining::{make_room, take_all};
-use crate::lists::{Lists, all_rows, no_lists, take_emit};
 use std::alloc::Global;
 use std::marker::Model;
 use sz_flat::FlatList;

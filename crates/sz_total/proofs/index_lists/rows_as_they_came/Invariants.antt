@@ -1,7 +1,7 @@
 -- There are rows of each entry so far, and each of them was bounded.
 use Rattle.std.proofs.Common.{◌≡◌, ◌++◌, map}
 use Rattle.sz_total.specs.Entries.{entry_rows, AreBounded}
-use Rattle.sz_total.proofs.lists.rows_as_they_came.Given as goal
+use Rattle.sz_total.proofs.index_lists.rows_as_they_came.Given as goal
 
 abbrev pub invariant-loop-key : goal.invariant-loop-key
 invariant-loop-key l = record {

@@ -3,7 +3,7 @@ use Rattle.std.proofs.Common.{◌∙◌, sym, length}
 use Rattle.std.proofs.lemmas.Bool.{eqb-true}
 use Rattle.std.proofs.lemmas.List.{nil_from_length}
 use Rattle.sz_total.proofs.KeyLemmas.{first_key}
-use Rattle.sz_total.proofs.lists.is_first_without_indexes.Goals as goal
+use Rattle.sz_total.proofs.index_lists.is_first_without_indexes.Goals as goal
 
 pub returns-in-Some : goal.returns-in-Some
 returns-in-Some c = record {

@@ -11,7 +11,7 @@ use Rattle.sz_tabs.specs.Rows.{brought_by}
 use Rattle.sz_total.specs.Aggregates.{declaration_of, count_of, shown_of}
 use Rattle.sz_total.specs.Entries.{TakesEmit, same_indexes}
 use Rattle.sz_total.proofs.EntryLemmas.{of_table_there, taken_there}
-use Rattle.sz_total.proofs.lists.take_hashed.Goals as goal
+use Rattle.sz_total.proofs.index_lists.take_hashed.Goals as goal
 
 -- what is found under the emit's index list
 pub add_to-requires-clause-fits : goal.add_to-requires-clause-fits

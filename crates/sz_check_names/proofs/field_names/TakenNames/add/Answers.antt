@@ -3,7 +3,7 @@ use Rattle.sz_scope.specs.declared.meaning.Meaning.TheVariants.{Input}
 use Rattle.sz_check_rules.specs.Refusals.{has_name}
 use Rattle.sz_check_names.specs.Parts.{names_in}
 use Rattle.sz_check_names.proofs.TakenLemmas.{taken_free, taken_ok}
-use Rattle.sz_check_names.proofs.taken.TakenNames.add.Goals as goal
+use Rattle.sz_check_names.proofs.field_names.TakenNames.add.Goals as goal
 
 pub returns-clause-free : goal.returns-clause-free
 returns-clause-free c =

@@ -1,7 +1,7 @@
 use Rattle.std.proofs.Common.{ℕ, ◌+◌, length, ap, sym, ◌∙◌, arith, length-drop}
 use Rattle.sz_records.specs.Cutting.{line_len}
 use Rattle.sz_records.proofs.ScanLemmas.{line_len_within, scanned_on}
-use Rattle.sz_records.proofs.front.line_len_from.Goals as goal
+use Rattle.sz_records.proofs.record_at.line_len_from.Goals as goal
 
 pub returns-clause-value : goal.returns-clause-value
 returns-clause-value c =

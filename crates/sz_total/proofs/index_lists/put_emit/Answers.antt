@@ -9,7 +9,7 @@ use Rattle.sz_tabs.specs.Rows.{brought_by}
 use Rattle.sz_total.specs.Aggregates.{declaration_of, count_of, shown_of}
 use Rattle.sz_total.specs.Entries.{TakesEmit, same_indexes}
 use Rattle.sz_total.proofs.EntryLemmas.{taken_new}
-use Rattle.sz_total.proofs.lists.put_emit.Goals as goal
+use Rattle.sz_total.proofs.index_lists.put_emit.Goals as goal
 
 pub returns-clause-ok : goal.returns-clause-ok
 returns-clause-ok c =

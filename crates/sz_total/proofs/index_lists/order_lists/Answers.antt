@@ -2,7 +2,7 @@
 use Rattle.std.proofs.Common.{◌∙◌}
 use Rattle.sz_tabs.specs.Rows.{compare_indexes}
 use Rattle.sz_total.proofs.KeyLemmas.{lists_compare}
-use Rattle.sz_total.proofs.lists.order_lists.Goals as goal
+use Rattle.sz_total.proofs.index_lists.order_lists.Goals as goal
 
 pub returns : goal.returns
 returns c = record {

@@ -1,7 +1,7 @@
 use Rattle.std.proofs.Common.{ap, ◌∙◌, reverse, ◌∷◌, if◌then◌else◌}
 use Rattle.sz_check_names.specs.Parts.{has_number}
 use Rattle.sz_check_names.proofs.TakenLemmas.{numbers_with}
-use Rattle.sz_check_names.proofs.taken.TakenNumbers.add.Goals as goal
+use Rattle.sz_check_names.proofs.field_names.TakenNumbers.add.Goals as goal
 
 pub returns : goal.returns
 returns c = record {

@@ -2,7 +2,7 @@
 use Rattle.std.proofs.Common.{◌∙◌, rules}
 use Rattle.std.proofs.lemmas.Fn.{always_returns_same}
 use Rattle.sz_total.proofs.KeyLemmas.{rows_less, rows_ordered, rows_sorted}
-use Rattle.sz_total.proofs.lists.all_rows.Goals as goal
+use Rattle.sz_total.proofs.index_lists.all_rows.Goals as goal
 
 pub returns : goal.returns
 returns c = record {

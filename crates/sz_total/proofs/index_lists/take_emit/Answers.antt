@@ -15,7 +15,7 @@ use Rattle.sz_total.specs.Aggregates.{declaration_of, count_of, shown_of}
 use Rattle.sz_total.specs.Entries.{TakesEmit, same_indexes}
 use Rattle.sz_total.proofs.EntryLemmas.{of_table_there, taken_there}
 use Rattle.sz_total.proofs.KeyLemmas.{is_first}
-use Rattle.sz_total.proofs.lists.take_emit.Goals as goal
+use Rattle.sz_total.proofs.index_lists.take_emit.Goals as goal
 
 pub add_to-requires-clause-fits : goal.add_to-requires-clause-fits
 add_to-requires-clause-fits c =

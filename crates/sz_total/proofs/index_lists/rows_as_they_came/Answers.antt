@@ -7,7 +7,7 @@ use Rattle.std.proofs.lemmas.List.Elements.{All-nil, All-cons}
 use Rattle.std.proofs.lemmas.Map.Iter.{rest_more}
 use Rattle.sz_total.specs.Aggregates.{IsBounded}
 use Rattle.sz_total.specs.Entries.{entry_rows, AreBounded}
-use Rattle.sz_total.proofs.lists.rows_as_they_came.Goals as goal
+use Rattle.sz_total.proofs.index_lists.rows_as_they_came.Goals as goal
 
 pub returns-clause-value : goal.returns-clause-value
 returns-clause-value c =
