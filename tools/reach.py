@@ -1,4 +1,4 @@
-"""Which definitions the clauses of the top call reach: names are followed from the clauses of `szl_main` through specs/*.antt.
+"""Which definitions the clauses of a top call reach: names are followed from them through specs/*.antt.
 
 A definition is what stands from one declared name to the next at the left margin, or a whole block `mutual`; it reaches each
 name that stands in it and is declared in its file or brought in by a `use` line of the file."""
@@ -101,11 +101,11 @@ def reached(clauses, brought):
     return found
 
 
-def of_headline():
-    """What the clauses of the top call reach."""
-    path = next(it for it in (ROOT / "crates/szl/src").glob("*.rt") if re.search(r"^pub fn szl_main\b", read(it), re.M))
+def of_call(name):
+    """What the clauses of a public call of `szl` reach."""
+    path = next(it for it in (ROOT / "crates/szl/src").glob("*.rt") if re.search(rf"^pub fn {name}\b", read(it), re.M))
     text = read(path)
-    head = re.search(r"^pub fn szl_main\b.*?^\{", text, re.M | re.S).group()
+    head = re.search(rf"^pub fn {name}\b.*?^\{{", text, re.M | re.S).group()
     # a clause may go over several lines; its last one ends with its brace
     clauses = "\n".join(re.findall(r"(?:ensures|requires)[^{\n]*\{(.*?)\}[ \t]*$", head, re.M | re.S))
     return reached(clauses, brought_in(text, "ghost use"))
