@@ -56,7 +56,8 @@ with_lendings [] = []
 with_lendings (e ∷ es) = lending e.event ++ e ∷ with_lendings es
 
 -- What the type of a ledger with its history keeps: with a lending in front of each return the history is legal, and leads to the state
--- but for which lanes are out. Each noted death is of an attempt that died, and the least bad shard faults
+-- but for which lanes are out. Each noted death is of an attempt that died, and the least shard marked bad is
+-- one of those that are bad
 pub record Replays (died : ℕ → ℕ → Type 0) (faults : ℕ → Type 0) (h : HeldData) : Type 0 where
   pub plan : IsPlan h.plan
   pub legal : IsLegal h.plan h.lanes (with_lendings h.history)

@@ -213,7 +213,7 @@ impl<T: Load> Book<T> {
         self.shelf.lock(rt).give(lane_no, lane);
     }
 
-    /// Reports that a shard has a record that faults.
+    /// Reports that a shard is bad: more of its records fault than may be passed over. Shards are numbered from 0.
     pub fn bad<W: Wait>(&self, rt: &W, _pass: &mut BookPass, shard: u32)
         requires faults { T.faults shard }
     {

@@ -16,7 +16,7 @@ use sz_book_rules::{Event, Reply};
 /// The ledger of a round with its history: each call that changed more than which lanes are out.
 ///
 /// Contracts see its plan, the number of its lanes, the state of the machine and the history. The type keeps that the history replays
-/// to the state, that each noted death is of an attempt that died, and that the least bad shard faults, by the meanings of `T`.
+/// to the state, that each noted death is of an attempt that died, and that the least shard marked bad is bad, by the meanings of `T`.
 pub struct Held<T: Load> {
     core: Core,
     changes: Vec<Change>,

@@ -17,7 +17,7 @@ pub enum Event {
     LaneOut(u32),
     /// Gives back the lane with this number.
     LaneBack(u32),
-    /// The shard has a record that faults.
+    /// The shard is bad: more of its records fault than may be passed over.
     Bad(u32),
 }
 

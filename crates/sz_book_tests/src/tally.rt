@@ -7,7 +7,7 @@ use std::snapshot::Snapshot;
 use sz_book::{Lane, Load, NoMemory, Plan, Receipt, Shards};
 use sz_list::Items;
 
-/// It stands for the shards in its list. All attempts may die, and all shards may have a record that faults.
+/// It stands for the shards in its list. All attempts may die, and all shards may be bad.
 #[derive(Drop)]
 pub struct Tally {
     pub shards: Shards,

@@ -244,7 +244,7 @@ impl<T: Load> Ledger<T> {
         death(&self.table.shared, &mut pass.seat, claim, number);
     }
 
-    /// Reports that a shard has a record that faults.
+    /// Reports that a shard is bad: more of its records fault than may be passed over. Shards are numbered from 0.
     pub fn bad(&self, pass: &mut Pass<T>, shard: u32)
         requires of { pass.old.ledger ≡ self.now }
         requires within { shard < self.now.plan.shards }

@@ -11,7 +11,7 @@ use sz_book::{Claim, Load};
 pub enum Missed {
     /// It died.
     Died,
-    /// Its shard has a record that faults.
+    /// Its shard is bad: more of its records fault than may be passed over.
     Bad,
     /// There was no memory.
     NoMemory,
