@@ -91,7 +91,7 @@ leads_to p bytes later (record_of r size) = later size
 leads_to p bytes later (stopped why) = p
 leads_to p bytes later unfinished = p + length bytes
 
--- from byte p on, after n records: where so many more of them end
+-- from byte p on, after n records: where the last of so many more of them ends, which is byte p for none
 unfoldable pub place_after : Frame → FrameLimits → ℕ → ℕ → List ℕ → ℕ → ℕ
 place_after frame limits p n bytes zero = p
 place_after frame limits p n bytes (suc count) =

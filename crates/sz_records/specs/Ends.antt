@@ -2,7 +2,8 @@
 use Rattle.std.specs.Prelude.{◌≡◌, ℕ, suc, ◌+◌, ◌-◌, ◌*◌, ◌^◌, ◌<◌, ◌≤◌, List, [], ◌∷◌, ◌++◌, length, take, drop, get_or}
 use Rattle.std.specs.List.{slice_range}
 
--- what a contract sees of records: the bytes of each, and where each ends in its file
+-- What a contract sees of records: the bytes of each, and where each ends in its file. An end is the place just after the record, a line's newline
+-- included, counted from the file's first byte as 0
 pub record RecordsData : Type 0 where
   pub items : List (List ℕ)
   pub ends : List ℕ

@@ -75,7 +75,7 @@ impl Records {
         self.ends.is_empty()
     }
 
-    /// The bytes of a record.
+    /// The bytes of record `i`, counted from 0, without its length or its newline.
     pub fn get(&self, i: usize) -> &[u8]
         requires within { i < length self.now.items }
         ensures value { slice_get self.now.items i ≡ Some result.now }
@@ -84,8 +84,9 @@ impl Records {
         between(self.bytes.as_slice(), from, self.ends[i])
     }
 
-    /// Where a record ends, counted in bytes from the first one that the framer which gave it was fed. A line ends after its newline, if it
-    /// has one.
+    /// Where record `i`, counted from 0, ends in its file: the place just after its last byte, or after its newline where it is a line that has
+    /// one. The next record begins there, with its length if it has one. The file's first byte has place 0, also where the framer that gave the
+    /// record began after a front of the file.
     pub fn end(&self, i: usize) -> u64
         requires within { i < length self.now.items }
         ensures value { slice_get self.now.ends i ≡ Some result }
@@ -98,7 +99,8 @@ impl Records {
         }
     }
 
-    /// How many bytes the records from one place to another have together, by the places where they end.
+    /// How many bytes the records from number `from` up to the one before number `to` have together, without lengths and newlines. It looks at
+    /// two ends alone.
     pub fn bytes_between(&self, from: usize, to: usize) -> usize
         requires order { from ≤ to }
         requires within { to ≤ length self.now.items }
@@ -109,7 +111,7 @@ impl Records {
         high - low
     }
 
-    /// Drops so many records from the front. It moves the bytes that stay, and their ends.
+    /// Drops so many records from the front: the next one has number 0 then. It moves the bytes that stay, and their ends.
     pub fn clear(&mut self, front: usize)
         requires within { front ≤ length self.old.items }
         ensures value { self.new ≡ later_of front self.old }

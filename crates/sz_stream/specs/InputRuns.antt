@@ -26,8 +26,8 @@ use Rattle.sz_stream.specs.declared.stop.Stop.TheVariants.{Fault, Lost, ReadFail
 use Rattle.sz_stream.specs.Inputs.{full, GoesOn}
 use Rattle.sz_stream.specs.Intakes.{AreClosed, sum_of, CanGoOn, IsFed}
 
--- shards in front gave these emits, and so many of their records were passed over, with those before them so many; what comes of all shards is what
--- comes of those after them, which begin with the shard of this number and the record of this one
+-- A run goes on after shards that were run. They gave these emits, `front_passed` of their records were passed over, and `passed` with those before them.
+-- What comes of all shards is what comes of those of the rest, which begin with the shard of this number, from 0, and the record of this number, from 1
 pub record RunsOn (job : Job) (most number first front_passed passed : ℕ) (emits : List EmitDatum) (rest : List (List ℕ)) (outcome : ShardsEnd)
     : Type 0 where
   pub sizes : List ℕ
@@ -80,7 +80,7 @@ pub record Reaches (done : Done) (job : Job) (frame : Frame) (most : ℕ) (intak
   pub consumed : Consumes start left read
   pub at_end : over ≡ true → IsAtEnd left
 
--- it is known of some bytes that were read, and of some emits
+-- more can be read: the intake has run some shards of some front of a file, and has the rest of that front at hand
 pub record CanRead (intake : Intake) : Type 0 where
   pub done : Done
   pub job : Job
@@ -107,7 +107,8 @@ pub record CanRun (job : Job) (intake : Intake) (total : TotalState) : Type 0 wh
   pub stand : StandForEmits job.compiled total emits
   pub has_round : HasRound job intake emits
 
--- no bytes are left unread that the intake didn't take in
+-- The intake took in each byte that was read from what was left before to what is left after, and ran no shard: with the emits that were known, all is
+-- known of the longer front of the file that was known of the shorter
 abbrev pub Fills : Intake → Intake → Option (List ℕ) → Option (List ℕ) → Type 0
 Fills old new before after = (done : Done) (job : Job) (frame : Frame) (most : ℕ) (emits : List EmitDatum) (start : Option (List ℕ))
     → Reaches done job frame most old emits start before → Reaches done job frame most new emits start after
@@ -132,7 +133,7 @@ abbrev pub TakesAll : Intake → Intake → List ℕ → Type 0
 TakesAll old new bytes = (done : Done) (job : Job) (frame : Frame) (most : ℕ) (emits : List EmitDatum)
     → IsRunning done job frame most old emits [] false → HasTakenAll done job frame most new emits bytes
 
--- the round has a shard, or the ending is known and no record is left
+-- reading has come as far as it has to: the round has a shard, or the ending is known and no record is left
 abbrev pub IsReady : Intake → Type 0
 IsReady intake = length intake.round.shards ≡ 0 → (is_some intake.ending ≡ true) × (length intake.round.records.items ≡ 0)
 

@@ -54,8 +54,9 @@ EndsInput job count ending outcome (Err (Limit byte)) = (ending ≡ endings.Limi
 EndsInput job count ending outcome (Err ReadFailed) = ⊤
 EndsInput job count ending outcome (Err NoMemory) = ⊤
 
--- the answer is that of the records of what stands behind what of an input is done, and of the shards that they are cut into, each of so many records at
--- most, which are numbered on from there
+-- A run behind a front of a file whose rounds are done; the input is what stands behind that front. The answer is that of the records that the input
+-- is cut into and of their shards, each of so many records at most: bytes, records and shards are counted on from those of the front, and so are the
+-- records that were passed over
 abbrev pub RunsBehind : Done → Job → ℕ → Frame → List ℕ → Result InputTables Stop → Type 0
 RunsBehind done job most frame input answer =
     (records : List (List ℕ)) (ending : Ending) (sizes : List ℕ) → IsCut frame full done.bytes done.records input records ending
@@ -66,7 +67,7 @@ RunsBehind done job most frame input answer =
 abbrev pub nothing : Done
 nothing = record { shards = 0; records = 0; bytes = 0; passed = 0 }
 
--- the same of a whole input
+-- the same of a whole file, of which nothing is done
 abbrev pub RunsInput : Job → ℕ → Frame → List ℕ → Result InputTables Stop → Type 0
 RunsInput job most frame input answer = RunsBehind nothing job most frame input answer
 

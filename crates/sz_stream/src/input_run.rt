@@ -27,7 +27,7 @@ use sz_value::NoMemory;
 use sz_words::RunSettings;
 use sz_workers::run_round;
 
-/// How many bytes are read at most by one call.
+/// How many bytes of a file are read at most by one call of `read`: the length of a buffer for `fill`.
 pub const PIECE_BYTES: usize = 65_536;
 
 /// The tables of all that the records of an opened file emit, by the frame and shards of these settings, and the number of the records; or
@@ -37,7 +37,12 @@ pub const PIECE_BYTES: usize = 65_536;
 /// is full is run, and its records are dropped. The first that has a shard which is lost, or a record too many that faults, ends the run, and
 /// no more is read.
 ///
-/// Each round is run by so many workers. The gate is called before each attempt; tickets are counted from 0 in each round.
+/// Each round is run by so many workers. The gate is called before each attempt; tickets are counted from 0 in each round, and shards from 0
+/// in the whole input.
+///
+/// The input is what is left of the file, its first byte being byte 0. But for want of memory and a failed read, `Fault` and `Lost` come exactly
+/// where a shard decides, by the first that does; `Damaged` and `Limit` where none does and the records end so. `ReadFailed` comes only where the
+/// count of faults rose.
 pub fn run_file<'a, R: Threads + Sync, F: Files, G: Gate + Sync>(
     rt: &R,
     alloc: Global,
@@ -71,7 +76,7 @@ pub fn run_file<'a, R: Threads + Sync, F: Files, G: Gate + Sync>(
     }
 }
 
-/// The same for an input that is in memory as a whole.
+/// The same for an input that is in memory as a whole, so that `ReadFailed` doesn't come.
 pub fn run_bytes<'a, R: Threads + Sync, G: Gate + Sync>(
     rt: &R,
     alloc: Global,
@@ -112,7 +117,13 @@ fn take_all(intake: &mut Intake, bytes: &[u8]) -> Result<(), NoMemory>
     intake.take(&[])
 }
 
-/// Reads pieces of a file until its next round is full, or its ending is known.
+/// Reads pieces of a file until its next round is full, or its ending is known. Where either is so already, nothing is read.
+///
+/// A round is full with 4,096 shards. It is full before that where it has a shard, and the next one, as far as it is at hand, would bring it past
+/// 2^20 records or past 2^26 bytes; a record's length or newline doesn't count. So a single shard may be larger than that. A piece has no more
+/// bytes than the buffer. Records of it that are behind the round stay at hand for the next one.
+///
+/// `Failed` comes only where the count of faults rose. After an error the intake may lack a piece that was read, and is of no more use.
 pub fn fill<F: Files>(
     intake: &mut Intake,
     files: &mut F,
@@ -182,7 +193,11 @@ fn run_next<'a, R: Threads + Sync, G: Gate + Sync>(
     Ok(())
 }
 
-/// Runs the round at hand by so many workers: its tables, and how many of its records were passed over.
+/// Runs the round at hand by so many workers: its tables alone, and how many of its own records were passed over, those of earlier rounds not
+/// counted. The intake stays as it is: `move_on` drops the round.
+///
+/// `Err` is `Fault` or `Lost`, exactly where a shard of the round decides, by the first that does; or `NoMemory`. Records passed over before the
+/// round count for whether a shard decides.
 pub fn run_at_hand<'a, R: Threads + Sync, G: Gate + Sync>(
     rt: &R,
     alloc: Global,

@@ -15,10 +15,10 @@ use sz_value::NoMemory;
 /// The most shards of a round.
 const MOST_SHARDS: usize = 4096;
 
-/// A round of more than one shard has no more records than these.
+/// A round of more than one shard has no more records than so many.
 const MOST_RECORDS: usize = 1 << 20;
 
-/// The records of a round of more than one shard have no more bytes than these.
+/// The records of a round of more than one shard have no more bytes than so many, without lengths and newlines.
 const MOST_BYTES: usize = 1 << 26;
 
 /// The records at hand of an input that comes in pieces, and the round that is made of them.
@@ -54,7 +54,8 @@ impl Drop for Intake {
 }
 
 impl Intake {
-    /// An intake in an input whose front is done: its pieces are those behind that. A shard has so many records at most. It takes no memory.
+    /// An intake in an input whose front is done: the first piece begins with byte `done.bytes` of the input, counted from 0. A shard has `most`
+    /// records at most, which is 1 or more for the other calls. It takes no memory.
     pub fn behind(alloc: Global, frame: Frame, most: u32, done: Done) -> Intake
         requires done { CanGoOn done }
         ensures empty { IsEmpty frame most done result }
@@ -124,7 +125,8 @@ impl Intake {
         Ok(false)
     }
 
-    /// The ending, where it is known and no shard is left to be run.
+    /// The ending, where it is known and the round at hand has no shard. After `fill` no record is left then. The byte of `Damaged` and `Limit`
+    /// is counted from the first one of the whole input, which is 0.
     pub fn end(&self) -> Option<Ending>
         ensures value { result ≡ end_of self.now }
     {
@@ -135,14 +137,14 @@ impl Intake {
         }
     }
 
-    /// The round at hand.
+    /// The round at hand. Its shards are numbered on from those of the rounds before it; it may have records behind its last shard.
     pub fn round(&self) -> &Round
         ensures value { result.now ≡ self.now.round }
     {
         &self.round
     }
 
-    /// What is done once the round at hand is, of whose records so many were passed over.
+    /// What is done of the whole input once the round at hand is, of whose own records `passed` were passed over.
     pub fn done_with(&self, passed: u32) -> Done
         requires begun { 1 ≤ self.now.first }
         requires some { 0 < self.now.closed }
@@ -161,7 +163,7 @@ impl Intake {
         }
     }
 
-    /// How many records there were before those at hand.
+    /// How many records the whole input has before those at hand.
     pub fn records_run(&self) -> u64
         requires begun { 1 ≤ self.now.first }
         ensures value { result ≡ self.now.first - 1 }
@@ -169,7 +171,8 @@ impl Intake {
         self.first - 1
     }
 
-    /// Drops the shards of the round, which were run, and their records, of which so many were passed over.
+    /// Drops the shards of the round, which were run, and their records, of which `passed` were passed over. The next round begins with the record
+    /// behind them.
     pub fn move_on(&mut self, passed: u32)
         requires within { self.old.closed ≤ length self.old.round.records.items }
         requires few { self.old.first + length self.old.round.records.items ≤ 2 ^ 31 + 1 }

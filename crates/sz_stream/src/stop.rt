@@ -10,17 +10,18 @@ use sz_machine::Fault;
 pub enum Stop {
     /// More records fault than may be passed over, and no shard up to the one with the first too many is lost.
     Fault {
-        /// The number of the first record too many, counted from 1.
+        /// The number of the first record too many, counted from 1 in the whole input.
         record_no: u64,
+        /// Its fault: the kind, and the place in the program.
         fault: Fault,
     },
-    /// The first shard that decides is lost: its number, counted from 0.
+    /// The first shard that decides is lost, as all attempts on it died: its number, counted from 0 in the whole input.
     Lost(u64),
-    /// The input is damaged where a record would begin, at this byte from 0.
+    /// No shard decides, and the input is damaged where a record would begin, at this byte of it, counted from 0.
     Damaged(u64),
-    /// The input passes a limit where a record would begin, at this byte from 0.
+    /// No shard decides, and the input passes a limit where a record would begin, at this byte of it, counted from 0.
     Limit(u64),
-    /// A piece couldn't be read.
+    /// A piece couldn't be read. It comes only where the count of faults of the files rose.
     ReadFailed,
     /// There was not enough memory.
     NoMemory,
