@@ -25,7 +25,7 @@ IsLeft name job source held before added image =
     (IsEmpty held × IsEmpty image)
     ⊎ ((some : List RoundEntry) × AreFirst some added × Stands name job source image (before ++ some))
 
--- each round has at most 4,096 shards, after how far the job has come
+-- each of these rounds has at most 4,096 shards: its next shard is no further than that from where the job had come before it
 abbrev pub AreSmall : Progress → List RoundEntry → Type 0
 AreSmall before [] = ⊤
 AreSmall before (round ∷ rounds) = (round.next_shard ≤ before.shards + 4096) × AreSmall (progress_of round) rounds
@@ -65,7 +65,8 @@ last_of held [] = held
 last_of held (image ∷ images) = last_of image images
 
 -- However often a job is stopped, what is left is again a journal that a call of it may find: so by what a call answers over such a journal, the
--- one that isn't stopped answers what one call over an empty journal does. The journal has the rounds that it had at first, and others after them
+-- one that isn't stopped answers what one call over an empty journal does. Where the job's number of records to pass over fits its 4 bytes, as it does
+-- for each command line, the journal has the rounds that it had at first, and others after them
 abbrev pub StopsLeaveTheJob : Type 0
 StopsLeaveTheJob =
     (name : JobBytes) (job : Job) (source : Source) (held : List ℕ) (before : List RoundEntry) (images : List (List ℕ))

@@ -9,11 +9,13 @@ use sz_stream::Stop;
 /// Why a job that goes on after its journal ends without the tables of all its records.
 #[derive(Drop)]
 pub enum Halt {
-    /// The run of the input ends so.
+    /// The run of the input ends so. Records, shards and bytes are counted from the beginning of the input, those of the journal's rounds included.
+    /// Want of memory comes so too, in whichever call.
     Stopped(Stop),
-    /// The input is shorter than the rounds of the journal. This is the gate after which the last of them stands.
+    /// The input is shorter than the rounds of the journal. This is the place of the gate after which the last of them stands, counted in bytes of
+    /// the journal from 0.
     Short(u64),
-    /// The disk failed, and its count of faults rose.
+    /// The disk failed. It comes only where its count of faults rose.
     DiskFailed,
 }
 

@@ -38,10 +38,14 @@ use sz_save::Saved;
 use sz_stream::{Done, Intake, PIECE_BYTES, Stop, fill, run_at_hand};
 use sz_words::RunSettings;
 
-/// The tables of all that the records of an opened file emit, by the frame and shards of these settings; or why there are none.
+/// The tables of all that the records of an opened file emit, by the frame and shards of these settings; or why there are none. Their bound is the
+/// number of all records times the job's budget. Of the settings the frame and `shard` alone are looked at; all else is the job's.
 ///
-/// The bytes of the rounds that the job's journal has are read and dropped. Behind them the file is run as by `run_file`, and each round is
-/// appended to the journal before the next one is run.
+/// The input is what is left of the file. The bytes of the rounds that the job's journal has are read and dropped. Behind them the file is run as by
+/// `run_file`, and each round is appended to the journal before the next one is run. So the journal has all rounds before the one that decides.
+///
+/// `Short` comes exactly where the input ends in the rounds of the journal, before any call of the disk. `Stopped` has the causes of `run_file`.
+/// After `DiskFailed`, and after want of memory, the journal has to be opened again.
 pub fn resume_file<R: Threads + Sync, F: Files, G: Gate + Sync, K: Disk>(
     rt: &R,
     alloc: Global,

@@ -113,7 +113,7 @@ StopsTables bound decls flat NotSaved = counted_at (table_at bound) flat ≡ Non
 StopsTables bound decls flat Other = IsOtherTables bound decls flat
 StopsTables bound decls flat NoMemory = ⊤
 
--- why the file wasn't joined: the bytes are those of no state, or only those of states with other declarations
+-- why the file wasn't joined: the bytes are those of no state; or those of none that has the declarations of what is kept, and perhaps of none at all
 abbrev pub StopsRead : SavedState → List ℕ → ReadJoinError → Type 0
 StopsRead one bytes NotSaved = (state : SavedState) → Saves bytes state → ⊥
 StopsRead one bytes Other = (state : SavedState) → Saves bytes state → state.decls ≢ one.decls

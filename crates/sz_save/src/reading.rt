@@ -20,6 +20,9 @@ use sz_types::{TableDecl, TableDecls};
 
 /// What is kept and what the bytes are saved of, together; of what is kept nothing is left where there is an error. The bounds together aren't
 /// too large.
+///
+/// `NotSaved` comes only where the bytes are no saved file. `Other` comes where they are one with other declarations; it may come too where
+/// they are none, since nothing behind the first other declaration is read. So whoever has to tell the two apart reads the bytes once more.
 pub fn join_read(alloc: Global, one: Saved, bytes: &[u8]) -> Result<Saved, ReadJoinError>
     requires low { (bound : ℕ) (rest : List ℕ) → head_at bytes.now ≡ Some (bound, rest) → one.bound + bound ≤ 2 ^ 63 }
     ensures value { IfOk result (λ both. JoinsRead one bytes.now both) }

@@ -4,7 +4,7 @@ use std::alloc::AllocError;
 /// Why words give no settings.
 #[derive(Clone, Copy, Debug, PartialEq, Eq)]
 pub enum WordsError {
-    /// The words are no command line.
+    /// The words are no command line, whatever the files hold that they name.
     Usage,
     /// There was no memory.
     NoMemory,

@@ -22,9 +22,10 @@ use std::alloc::Global;
 use sz_list::Items;
 use sz_types::{Frame, Text};
 
-/// What the words after the program's name ask for: the command, its options and its names.
+/// What the words after the program's name ask for: the first word is the command, and after it stand its options and names.
 ///
-/// `Usage` exactly where they are no command line.
+/// `Usage` comes exactly where they are no command line: no word, no such command, an option that the command doesn't take or that stands twice, a
+/// value out of its range, or other names than the command has. No file is opened to find out. `NoMemory` comes where there was no memory.
 pub fn read_words(alloc: Global, words: &[String]) -> Result<Settings, WordsError>
     ensures value { IfOk result (λ s. settings_in (map string_bytes words.now) ≡ Some s) }
     ensures usage { IfErr result (λ e. e ≡ Usage → settings_in (map string_bytes words.now) ≡ None) }

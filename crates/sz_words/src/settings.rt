@@ -2,23 +2,24 @@
 use sz_list::Items;
 use sz_types::{Frame, Text};
 
-/// An attempt that dies.
+/// An attempt that dies. One on a shard that isn't there, or with a number for which there is no attempt, has no effect.
 #[derive(Clone, Copy, Debug, PartialEq, Eq)]
 pub struct Kill {
-    /// The shard, counted from 0.
+    /// The number of the shard in the whole input, counted from 0: at most 2^31 - 1.
     pub shard: u32,
-    /// The number of the attempt on that shard, counted from 0.
+    /// The number of the attempt on that shard, counted from 0: at most 7.
     pub number: u32,
-    /// After how many records of the shard it dies.
+    /// After how many records of the shard it dies: at most 65,536.
     pub after: u32,
 }
 
-/// Kills, in the order of the words. No two are of the same attempt.
+/// Kills, in the order of the words: at most 10,000, and no two of the same attempt.
 ///
 /// Contracts see a list.
 pub type Kills = Items<Kill>;
 
-/// The shards that have a second ticket, in the order of the words, each once.
+/// The numbers of the shards that have a second ticket, counted from 0 in the whole input, in the order of the words: at most 10,000, each once, and
+/// each at most 2^31 - 1.
 ///
 /// Contracts see a list.
 pub type Twice = Items<u32>;
@@ -37,19 +38,19 @@ pub struct RunSettings {
     pub program: Text,
     /// The name of the input's file, or `-` for standard input.
     pub input: Text,
-    /// The name of the `.proto` file whose types the program has, or `-` for standard input, if it has one.
+    /// The name of the `.proto` file whose types the program has, or `-` for standard input, if it has one. Of the three names at most one is `-`.
     pub proto: Option<Text>,
-    /// How the records of the input are told apart.
+    /// How the records of the input are told apart: as lines where nothing else is asked for.
     pub frame: Frame,
-    /// The number of threads that work: 1 to 64.
+    /// The number of workers: 1 to 64, and 4 where nothing is asked for.
     pub workers: u32,
-    /// The most records of a shard: 1 to 65,536.
+    /// The most records of a shard: 1 to 65,536, and 1,000 where nothing is asked for.
     pub shard: u32,
-    /// The number of attempts on a shard: 1 to 8.
+    /// The most attempts on a shard: 1 to 8, and 3 where nothing is asked for.
     pub attempts: u32,
-    /// The ticks that a record may take: 1 to 2^32.
+    /// The ticks that a record may take, and all statics together: 1 to 2^32, and 2^24 where nothing is asked for.
     pub budget: u64,
-    /// How many records that fault are passed over: 0 to 1,000.
+    /// How many records that fault are passed over at most: 0 to 1,000, and none where nothing is asked for.
     pub skip: u32,
     /// The attempts that die.
     pub kills: Kills,
@@ -94,15 +95,15 @@ pub enum Settings {
     },
     /// To run the program of the self test over a generated input.
     Selftest {
-        /// What the input is generated from: at most 2^63 - 1.
+        /// The number that the input is generated from: at most 2^63 - 1.
         seed: u64,
         /// The number of records of the input: at most 1,000,000.
         records: u32,
-        /// The number of threads that work: 1 to 64.
+        /// The number of workers: 1 to 64.
         workers: u32,
     },
-    /// To run a program over an input, and to keep each round that is done in a journal, behind whose last one the run goes on. Its tables
-    /// aren't saved.
+    /// To run a program over an input, and to keep each round that is done in a journal, behind whose last one the run goes on. Its `save` is
+    /// false.
     Resume(RunSettings),
     /// To join saved tables.
     Merge {

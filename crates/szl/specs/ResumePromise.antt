@@ -164,18 +164,20 @@ pub record SpellsOn (IsName : JobBytes → Type 0) (held image : List ℕ) : Typ
   pub was : (IsEmpty held × (before ≡ [])) ⊎ Spells name decls held before
   pub is : Spells name decls image (before ++ more)
 
--- No round is lost: what is left is what was held; or neither has an entry; or it spells a job with the rounds that were there, and others after them
+-- No round is lost: what is left is what was held; or neither has an entry; or it spells a job with the rounds that were there, and others after them.
+-- What the others stand for isn't said here
 abbrev pub LosesNothing : (JobBytes → Type 0) → (held image : List ℕ) → Type 0
 LosesNothing IsName held image = (image ≡ held) ⊎ ((IsEmpty held × IsEmpty image) ⊎ SpellsOn IsName held image)
 
--- whatever a crash during the call might have left of the disk loses nothing of what it held, whatever the files hold
+-- Whatever a crash during the call might have left of the disk loses nothing of what it held, whatever the files hold: where before the call a crash would
+-- have left what a read gives, and that is told
 abbrev pub KeepsEntries : {K : Type 0} → disks.Ghosts K → (JobBytes → Type 0) → K → K → Type 0
 KeepsEntries the_disk IsName disk new_disk =
     (held : List ℕ) → Rests (the_disk.bytes disk) (the_disk.may_leave disk) held → are_told (the_disk.may_leave disk) ≡ true
     → LeavesOnly the_disk.time the_disk.left_since disk new_disk (LosesNothing IsName held)
 
--- What a call leaves of the disk: it isn't called where there is no program that can be run, with statics; a journal that isn't one of a job with this
--- name is left as it is; and what is kept of one that calls of the job may find
+-- What a call leaves of the disk: it isn't called where there is no program that can be run, with statics; a journal that isn't empty and isn't one of a
+-- job with this name is left as it is; and what is kept of one that calls of the job may find
 pub record KeepsDisk {K : Type 0} (the_disk : disks.Ghosts K) (s : RunSettings) (IfSo : (Marked → List Slot → Type 0) → Type 0) (name : JobBytes)
     (told : Option (List ℕ)) (status : Status) (disk new_disk : K) : Type 0 where
   pub untouched : IfSo (λ program slots. ⊥) → new_disk ≡ disk

@@ -29,7 +29,11 @@ use sz_disk::Disk;
 use sz_io::{Files, Gate, Sink, WriteError, write_whole};
 
 /// Runs the command line of these words, which come without the program's name: opens what it names in `files`,
-/// writes its text to `out`, and the line that says why there is none to `err`.
+/// writes its text to `out`, and the line that says why there is none to `err`. Only status 0 leaves all of the text there, and after a write that
+/// failed, or want of memory, there may be a front of it.
+///
+/// In lines records and the files of `merge` are counted from 1, and so are lines and columns of a program, the columns in bytes; a fault of a static
+/// is one of record 0. Shards and bytes are counted from 0. A job that is resumed needs a disk: here its words are no command line.
 ///
 /// Each round of shards is run by as many workers as the words ask for, or by one where the types of the program are very high. Each but
 /// one has a thread, which is started for the round and ends with it. The gate is called before each attempt.
@@ -94,7 +98,8 @@ pub fn szl_main_on<R: Threads + Sync, F: Files, O: Sink, E: Sink, G: Gate + Sync
     }
 }
 
-/// The same as `szl_main` where there is a disk: a job that is resumed has its journal there. No other command calls the disk.
+/// The same as `szl_main` where there is a disk: a job that is resumed has its journal there, from the disk's first byte on, and places in its line
+/// are bytes of the journal, counted from 0. No other command calls the disk. The journal is opened after the statics and before the input.
 pub fn szl_disk_main<R: Threads + Sync, F: Files, O: Sink, E: Sink, G: Gate + Sync, K: Disk>(
     rt: &R,
     alloc: Global,

@@ -16,8 +16,12 @@ use sz_io::{Failed, Files};
 /// How many bytes are read at most by one call.
 const PIECE_BYTES: usize = 65_536;
 
-/// The places at which the file under a name is cut into parts of so many bytes, and those by which the last message of each goes past that;
-/// or why it isn't cut. A part begins with a message and ends with one.
+/// The places at which the file under a name is cut into parts of about `size` bytes, or why it isn't cut. A place is a byte, counted from 0, at
+/// which a message begins, its length in front: the first one at a multiple of the size, or past it. So a part begins with a message and ends with
+/// one. It may be longer than the size by a message, and shorter by the message with which the part before it ends. The beginning of the file is
+/// no place.
+///
+/// `Damaged` and `Limit` come exactly where the messages of the file end so, and `ReadFailed` only where the count of faults rose.
 ///
 /// The file is read in pieces, and what is kept of it is a piece, the messages in it, the beginning of the next one, and the places.
 pub fn cut_places<F: Files>(
