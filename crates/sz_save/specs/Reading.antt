@@ -38,7 +38,7 @@ abbrev pub is_above : Option (List Datum) → List Datum → Bool
 is_above None later = true
 is_above (Some earlier) later = is_lt (compare_indexes earlier later)
 
--- no sum of the index lists that are kept is further from 0, and they have as many as the table's elements
+-- of a table of sums each row that is kept has `count` sums, none of them further from 0 than `most`; of other kinds nothing is asked
 abbrev pub KeepSums : TableKind → ℕ → ℕ → List Indexed → Type 0
 KeepSums Sum count most kept = AllByRecursion (HasSums count most) kept
 KeepSums Maximum count most kept = ⊤
@@ -69,7 +69,7 @@ pub record ReadsTable (bound : ℕ) (table : Declaration) (kept : List Indexed) 
   pub is : joined ≡ joined_entries table.kind table.limit kept entries
   pub counted : AreCounted joined
 
--- in front there is a table with another declaration
+-- in front there is no table with this declaration: one with another, or perhaps none at all
 abbrev pub IsOtherTable : ℕ → Declaration → List ℕ → Type 0
 IsOtherTable bound table flat =
     (read : Declaration × List Indexed) (rest : List ℕ) → table_at bound flat ≡ Some (read, rest) → read.0 ≢ table
@@ -103,11 +103,12 @@ pub record ReadsTables (bound : ℕ) (decls : List Declaration) (kept : List (Li
   pub is : joined ≡ joined_tables decls kept tables
   pub counted : AllByRecursion AreCounted joined
 
--- why the tables weren't read: there are none, or those that are there have other declarations
+-- in front there are no tables with these declarations: others, or perhaps none at all
 abbrev pub IsOtherTables : ℕ → List Declaration → List ℕ → Type 0
 IsOtherTables bound decls flat =
     (tables : List (Declaration × List Indexed)) (rest : List ℕ) → counted_at (table_at bound) flat ≡ Some (tables, rest) → map (λ t. t.0) tables ≢ decls
 
+-- why the tables weren't read: there are none, or none that have these declarations
 abbrev pub StopsTables : ℕ → List Declaration → List ℕ → ReadJoinError → Type 0
 StopsTables bound decls flat NotSaved = counted_at (table_at bound) flat ≡ None
 StopsTables bound decls flat Other = IsOtherTables bound decls flat

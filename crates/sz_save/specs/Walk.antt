@@ -50,12 +50,12 @@ abbrev pub joined_tables : List Declaration → List (List Indexed) → List (Li
 joined_tables (d ∷ ds) (t ∷ ts) (u ∷ us) = joined_entries d.kind d.limit t u ∷ joined_tables ds ts us
 joined_tables _ _ _ = []
 
--- the row has so many sums, none further from 0
+-- the row has `count` sums, none of them further from 0 than `most`
 pub record HasSum (count most : ℕ) (row : RowDatum) : Type 0 where
   pub long : length (sums_in row.shown) ≡ count
   pub within : AreWithin most (sums_in row.shown)
 
--- the sums of both sides can be added
+-- the sums of both sides can be added: each row has equally many, and what they come to is no further from 0 than 2^126
 pub record CanAdd (rows others : List RowDatum) : Type 0 where
   pub count : ℕ
   pub most : ℕ
@@ -72,7 +72,7 @@ RowsCanJoin Minimum rows others = ⊤
 RowsCanJoin Set rows others = ⊤
 RowsCanJoin Collection rows others = ⊤
 
--- each of the rows under the index list has so many sums, none further from 0
+-- each of the rows under the index list has `count` sums, none of them further from 0 than `most`
 abbrev pub HasSums : ℕ → ℕ → Indexed → Type 0
 HasSums count most entry = AllByRecursion (HasSum count most) entry.rows
 
@@ -85,6 +85,7 @@ pub record CanAddAll (entries others : List Indexed) : Type 0 where
   pub each : AllByRecursion (HasSums count most) entries
   pub each_other : AllByRecursion (HasSums count others_most) others
 
+-- the index lists of both sides of a kind of table can be joined: sums can be added, and of other kinds nothing is asked
 abbrev pub CanJoin : TableKind → List Indexed → List Indexed → Type 0
 CanJoin Sum entries others = CanAddAll entries others
 CanJoin Maximum entries others = ⊤

@@ -10,7 +10,7 @@ use Rattle.szl_cut.specs.declared.failure.Failure.TheVariants.{WriteFailed, NoMe
 use Rattle.szl_cut.specs.Cuts.{IsCutAt}
 use Rattle.szl_cut.specs.Answers.{Asked, places_text}
 
--- the places of the file that is asked for were written, if the bytes under its name are told
+-- places were written, each on a line: those at which the file that is asked for is cut, if the bytes under its name are told
 pub record Writes (held : List ℕ → Option (List ℕ)) (asked : Option Asked) (old new : Option (List ℕ)) : Type 0 where
   pub name : List ℕ
   pub size : ℕ
@@ -19,7 +19,7 @@ pub record Writes (held : List ℕ → Option (List ℕ)) (asked : Option Asked)
   pub cut : IfSome (held name) (λ file. IsCutAt size file places)
   pub appends : Appends old new (places_text places)
 
--- a front of the places of the file that is asked for was written, but not all of it, if the bytes under its name are told
+-- a front of places was written, but not all of it: of those at which the file that is asked for is cut, if the bytes under its name are told
 pub record WritesSome (held : List ℕ → Option (List ℕ)) (asked : Option Asked) (old new : Option (List ℕ)) : Type 0 where
   pub name : List ℕ
   pub size : ℕ

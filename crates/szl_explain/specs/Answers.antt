@@ -48,8 +48,8 @@ abbrev pub status_of : Option Refusal → Status
 status_of None = Done
 status_of (Some r) = Program
 
--- This is said of a file, and this is its refusal, if it has one: it is a program, or it is refused so, and the line of that stands in front.
--- Where a file doesn't tell its bytes, it is as if it held some
+-- This is said of a file, and this is its refusal, if it has one: it is a program, or it is refused so, and the line of that stands in front. What
+-- stands after that line may be anything, and so may what is said of a program. Where a file doesn't tell its bytes, it is as if it held some
 pub record Explains (told : Option (List ℕ)) (refusal : Option Refusal) (said : List ℕ) : Type 0 where
   pub text : List ℕ
   pub holds : IfSome told (λ bytes. bytes ≡ text)
