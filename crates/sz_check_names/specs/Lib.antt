@@ -5,8 +5,8 @@ pub mod Written
 pub mod Kinds
 pub mod Knowledge
 pub mod Keeping
--- what the functions inside the crate promise each other
 pub mod Sorts
+-- what the functions inside the crate promise each other
 pub mod Parts
 pub mod KnownCode
 -- how whole lists are judged, for the crates above as well

@@ -1,11 +1,13 @@
 -- What the calls that read and write a whole text promise.
-use Rattle.std.specs.Prelude.{◌≡◌, ℕ, ◌⊎◌, Bool, true, false, IsTrue, List, [], ◌∷◌, ◌++◌, Result, Err, IfSome, IsSome}
-use Rattle.std.specs.Io.KnownBytes.{IsAtEnd}
+use Rattle.std.specs.Prelude.{◌≡◌, ℕ, ◌⊎◌, Bool, true, false, IsTrue, List, [], ◌∷◌, ◌++◌, Result, Err, IfSome, IsSome, ◌≤◌, length, take}
+use Rattle.std.specs.Io.KnownBytes.{Appends, IsAtEnd}
 use Rattle.sz_io.specs.declared.error.ReadError.{ReadError}
 use Rattle.sz_io.specs.declared.error.ReadError.TheVariants.{NoMemory}
 use Rattle.sz_io.specs.declared.error.WriteError.{WriteError}
 use Rattle.sz_io.specs.declared.error.WriteError.TheVariants as Write
 use Rattle.sz_io.specs.declared.files.Files.{Ghosts}
+use Rattle.sz_io.specs.declared.sink.Sink as sink
+use Rattle.sz_io.specs.Rose.{Rose}
 
 -- the names opened gain exactly this name; where memory ran out, this name or none
 abbrev pub NamesGain : Bool → List (List ℕ) → List (List ℕ) → List ℕ → Type 0
@@ -36,3 +38,9 @@ pub record OpensOne {F : Type 0} (files : Ghosts F) (old new : F) : Type 0 where
 abbrev pub bytes_taken : WriteError → ℕ
 bytes_taken (Write.Failed n) = n
 bytes_taken (Write.NoMemory n) = n
+
+-- a sink gained the line, or a prefix of it where one of the sink's two counts rose
+pub record GainsLine {S : Type 0} (the_sink : sink.Ghosts S) (old new : S) (line : List ℕ) : Type 0 where
+  pub count : ℕ
+  pub appends : Appends (the_sink.taken old) (the_sink.taken new) (take count line)
+  pub whole : (length line ≤ count) ⊎ (Rose (the_sink.faults old) (the_sink.faults new) ⊎ Rose (the_sink.refusals old) (the_sink.refusals new))

@@ -2,6 +2,6 @@
 pub mod Together
 pub mod Files
 pub mod Laws
--- what the functions inside the crate promise each other
 pub mod Groups
+-- what the functions inside the crate promise each other
 pub mod Reading

@@ -1,5 +1,5 @@
 -- The records of a file, and how they end.
-use Rattle.std.specs.Prelude.{◌≡◌, ℕ, zero, suc, ◌+◌, ◌-◌, List, [], ◌∷◌, length, take, drop, min, Option, Some, None, Bool}
+use Rattle.std.specs.Prelude.{◌≡◌, ℕ, zero, suc, ◌+◌, ◌-◌, List, [], ◌∷◌, length, take, drop, min, Option, Some, None, Bool, ◌^◌}
 use Rattle.std.specs.Prelude.{nat_lt, nat_le, ◌==◌, if◌then◌else◌}
 use Rattle.sz_types.specs.declared.frame.Frame.{Frame}
 use Rattle.sz_types.specs.declared.frame.Frame.TheVariants.{Lines, Delimited}
@@ -7,6 +7,10 @@ use Rattle.sz_wire.specs.Varint.{varint_at}
 use Rattle.sz_records.specs.declared.ending.Ending.{Ending}
 use Rattle.sz_records.specs.declared.ending.Ending.TheVariants.{Whole, Damaged, Limit}
 use Rattle.sz_records.specs.declared.limits.FrameLimits.{FrameLimits}
+
+-- what an input may hold: the bytes of a record, the number of records, and its bytes in all
+abbrev pub full : FrameLimits
+full = record { record_bytes = 4194304; records = 2147483648; input_bytes = 2 ^ 40 }
 
 -- what stands where a record begins: a record, with the number of bytes that it takes; the ending; or the beginning of a record
 pub data Standing : Type 0 where

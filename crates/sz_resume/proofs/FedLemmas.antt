@@ -5,14 +5,14 @@ use Rattle.std.proofs.lemmas.List.{drop-append-le}
 use Rattle.sz_types.specs.declared.frame.Frame.{Frame}
 use Rattle.sz_records.specs.declared.ending.Ending.{Ending}
 use Rattle.sz_records.specs.declared.limits.FrameLimits.{FrameLimits}
-use Rattle.sz_records.specs.Cutting.{IsCut, place_after, ends_in}
+use Rattle.sz_records.specs.Cutting.{full, IsCut, place_after, ends_in}
 use Rattle.sz_records.specs.Fed.{FramerData}
 use Rattle.sz_records.proofs.CutLaws.{some_cut}
 use Rattle.sz_records.proofs.CutLemmas.{same_places}
 use Rattle.sz_records.proofs.BehindLemmas as behind_some
 use Rattle.sz_records.proofs.BehindLemmas.{GoesOnBehind, goes_on_behind}
 use Rattle.sz_stream.specs.declared.done.Done.{Done}
-use Rattle.sz_stream.specs.Inputs.{full, GoesOn}
+use Rattle.sz_stream.specs.Inputs.{GoesOn}
 use Rattle.sz_stream.specs.Intakes.{IsFed}
 use Rattle.sz_stream.proofs.FedLemmas.{begins}
 use Rattle.sz_stream.proofs.PlaceLemmas.{places_later}

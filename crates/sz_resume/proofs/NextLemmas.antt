@@ -9,7 +9,7 @@ use Rattle.sz_tabs.specs.Data.{EmitDatum}
 use Rattle.sz_save_format.specs.Saved.{SavedState}
 use Rattle.sz_save.specs.Saving.{state_of_emits}
 use Rattle.sz_records.specs.declared.ending.Ending.{Ending}
-use Rattle.sz_records.specs.Cutting.{IsCut, place_after, ends_in}
+use Rattle.sz_records.specs.Cutting.{full, IsCut, place_after, ends_in}
 use Rattle.sz_records.specs.Shards.{AreShards}
 use Rattle.sz_attempt.specs.declared.job.Job.{Job}
 use Rattle.sz_attempt.specs.Shards.{ShardData}
@@ -25,7 +25,7 @@ use Rattle.sz_journal_format.specs.declared.round.RoundEntry.{RoundEntry}
 use Rattle.sz_journal_format.specs.Rounds.{progress_of, MayFollow}
 use Rattle.sz_stream.specs.declared.done.Done.{Done}
 use Rattle.sz_stream.specs.declared.intake.Intake.{Intake}
-use Rattle.sz_stream.specs.Inputs.{full, GoesOn}
+use Rattle.sz_stream.specs.Inputs.{GoesOn}
 use Rattle.sz_stream.specs.Intakes.{sum_of, IsFed, moved_on, done_with}
 use Rattle.sz_stream.specs.InputRuns.{HasRun, IsRunning}
 use Rattle.sz_stream.proofs.FedLemmas.{begins, few_given}

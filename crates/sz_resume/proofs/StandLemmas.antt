@@ -17,7 +17,7 @@ use Rattle.sz_rounds.proofs.OutcomeLemmas.{after_nothing, later_both, outcome-ap
 use Rattle.sz_journal_format.specs.declared.progress.Progress.{Progress}
 use Rattle.sz_journal_format.specs.declared.round.RoundEntry.{RoundEntry}
 use Rattle.sz_journal_format.specs.Rounds.{no_progress, progress_of, progress_after, all_bounds}
-use Rattle.sz_stream.specs.Inputs.{full}
+use Rattle.sz_records.specs.Cutting.{full}
 use Rattle.sz_resume.specs.Standing.{Source, place_in, IsRoundOf, AreRoundsOf}
 use Rattle.sz_resume.specs.Entries.{AreSavedOf, all_parts}
 use Rattle.sz_resume.proofs.ShardLemmas.{are_after}

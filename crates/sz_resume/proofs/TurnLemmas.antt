@@ -9,7 +9,7 @@ use Rattle.sz_mean.specs.Marked.{all_tables}
 use Rattle.sz_tabs.specs.Data.{EmitDatum}
 use Rattle.sz_save_format.specs.Saved.{SavedState}
 use Rattle.sz_records.specs.declared.ending.Ending.{Ending}
-use Rattle.sz_records.specs.Cutting.{IsCut}
+use Rattle.sz_records.specs.Cutting.{full, IsCut}
 use Rattle.sz_records.specs.Behind.{IsCutBehind}
 use Rattle.sz_records.specs.Shards.{AreShards}
 use Rattle.sz_records.proofs.BehindLemmas.{the_rest_is_cut_so}
@@ -33,7 +33,7 @@ use Rattle.sz_journal.specs.declared.journal.Journal.{Journal}
 use Rattle.sz_stream.specs.declared.done.Done.{Done}
 use Rattle.sz_stream.specs.declared.intake.Intake.{Intake}
 use Rattle.sz_stream.specs.declared.stop.Stop.TheVariants as stops
-use Rattle.sz_stream.specs.Inputs.{full, GoesOn}
+use Rattle.sz_stream.specs.Inputs.{GoesOn}
 use Rattle.sz_stream.specs.Intakes.{moved_on, done_with}
 use Rattle.sz_stream.specs.InputRuns.{IsRunning}
 use Rattle.sz_resume.specs.declared.halt.Halt.{Halt}

@@ -8,7 +8,7 @@ use Rattle.sz_save_format.specs.Saved.{SavedState}
 use Rattle.sz_save.specs.Saving.{state_of_emits}
 use Rattle.sz_records.specs.declared.ending.Ending.{Ending}
 use Rattle.sz_records.specs.declared.ending.Ending.TheVariants as endings
-use Rattle.sz_records.specs.Cutting.{IsCut}
+use Rattle.sz_records.specs.Cutting.{full, IsCut}
 use Rattle.sz_records.specs.Shards.{AreShards}
 use Rattle.sz_attempt.specs.declared.job.Job.{Job}
 use Rattle.sz_rounds.specs.Outcomes.{ShardsEnd, emitted, faulted, lost, outcome_of}
@@ -19,7 +19,7 @@ use Rattle.sz_journal_rules.specs.Journals.{Spells}
 use Rattle.sz_journal.specs.declared.journal.Journal.{Journal}
 use Rattle.sz_journal.specs.Journal.{rounds_of, last_gate, IsOf}
 use Rattle.sz_stream.specs.declared.stop.Stop.TheVariants as stops
-use Rattle.sz_stream.specs.Inputs.{full, GivesAll}
+use Rattle.sz_stream.specs.Inputs.{GivesAll}
 use Rattle.sz_resume.specs.declared.halt.Halt.{Halt}
 use Rattle.sz_resume.specs.declared.halt.Halt.TheVariants.{Stopped, Short}
 use Rattle.sz_resume.specs.Standing.{Source}

@@ -5,7 +5,7 @@ use Rattle.sz_mean.specs.Marked.{all_tables}
 use Rattle.sz_tabs.specs.Data.{EmitDatum}
 use Rattle.sz_save.specs.Saving.{state_of_emits}
 use Rattle.sz_records.specs.declared.ending.Ending.{Ending}
-use Rattle.sz_records.specs.Cutting.{IsCut, place_after}
+use Rattle.sz_records.specs.Cutting.{full, IsCut, place_after}
 use Rattle.sz_records.specs.Shards.{AreShards}
 use Rattle.sz_attempt.specs.declared.job.Job.{Job}
 use Rattle.sz_attempt.specs.Shards.{ShardData}
@@ -17,7 +17,6 @@ use Rattle.sz_journal_format.specs.declared.progress.Progress.{Progress}
 use Rattle.sz_journal_format.specs.declared.round.RoundEntry.{RoundEntry}
 use Rattle.sz_journal_format.specs.Rounds.{no_progress, progress_of}
 use Rattle.sz_journal_rules.specs.Journals.{Spells}
-use Rattle.sz_stream.specs.Inputs.{full}
 
 -- what a job is run over: the bytes of an input, how its records are told apart, and how many of them a shard has at most
 pub record Source : Type 0 where

@@ -7,7 +7,7 @@ use Rattle.sz_tabs.specs.Data.{EmitDatum}
 use Rattle.sz_save_format.specs.Saved.{SavedState}
 use Rattle.sz_records.specs.declared.ending.Ending.{Ending}
 use Rattle.sz_records.specs.declared.ending.Ending.TheVariants as endings
-use Rattle.sz_records.specs.Cutting.{IsCut}
+use Rattle.sz_records.specs.Cutting.{full, IsCut}
 use Rattle.sz_records.specs.Shards.{AreShards}
 use Rattle.sz_attempt.specs.declared.job.Job.{Job}
 use Rattle.sz_attempt.specs.Shards.{ShardData}
@@ -18,7 +18,6 @@ use Rattle.sz_journal_format.specs.Rounds.{no_progress, last_progress}
 use Rattle.sz_stream.specs.declared.done.Done.{Done}
 use Rattle.sz_stream.specs.declared.intake.Intake.{Intake}
 use Rattle.sz_stream.specs.declared.stop.Stop.TheVariants as stops
-use Rattle.sz_stream.specs.Inputs.{full}
 use Rattle.sz_stream.specs.InputRuns.{IsRunning, Reaches, StopsShards}
 use Rattle.sz_resume.specs.declared.halt.Halt.{Halt}
 use Rattle.sz_resume.specs.declared.halt.Halt.TheVariants.{Stopped, Short, DiskFailed}

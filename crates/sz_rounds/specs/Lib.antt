@@ -2,5 +2,4 @@
 pub mod Outcomes
 pub mod Rounds
 pub mod Cuts
--- what the functions inside the crate promise each other
 pub mod Tickets

@@ -5,10 +5,10 @@ pub mod Declarations
 pub mod Entries
 pub mod Saved
 pub mod Laws
+pub mod Decoding
+pub mod DecodingRows
 -- what the functions inside the crate promise each other
 pub mod Code
 pub mod Kinds
 pub mod Fields
 pub mod Short
-pub mod Decoding
-pub mod DecodingRows

@@ -6,12 +6,12 @@ use Rattle.std.proofs.lemmas.Bool.{eqb-true}
 use Rattle.sz_types.specs.declared.frame.Frame.{Frame}
 use Rattle.sz_records.specs.declared.ending.Ending.{Ending}
 use Rattle.sz_records.specs.declared.ending.Ending.TheVariants.{Whole}
-use Rattle.sz_records.specs.Cutting.{IsCut}
+use Rattle.sz_records.specs.Cutting.{full, IsCut}
 use Rattle.sz_records.specs.Ends.{RecordsData}
 use Rattle.sz_records.specs.Fed.{FramerData, IsCutBy, HasReadBehind, Feeds, Finishes, EndSo, EndAsFed, EndAsFinished}
 use Rattle.sz_records.proofs.CutLaws.{some_cut, cut_once, records_are_few}
 use Rattle.sz_stream.specs.declared.done.Done.{Done}
-use Rattle.sz_stream.specs.Inputs.{full, GoesOn}
+use Rattle.sz_stream.specs.Inputs.{GoesOn}
 use Rattle.sz_stream.specs.Intakes.{IsFed, HasTaken}
 
 -- however the file goes on, the rest of it is cut by the framer in some way

@@ -13,7 +13,7 @@ use Rattle.sz_total.specs.Totals.{IsNew, Joins}
 use Rattle.sz_io.specs.Opened.{KeepsOtherFiles}
 use Rattle.sz_records.specs.declared.ending.Ending.{Ending}
 use Rattle.sz_records.specs.declared.ending.Ending.TheVariants as endings
-use Rattle.sz_records.specs.Cutting.{IsCut, place_after}
+use Rattle.sz_records.specs.Cutting.{full, IsCut, place_after}
 use Rattle.sz_records.specs.Ends.{RecordsData}
 use Rattle.sz_records.specs.Fed.{FramerData, HasReadBehind}
 use Rattle.sz_records.specs.Shards.{AreShards}
@@ -26,7 +26,7 @@ use Rattle.sz_stream.specs.declared.done.Done.{Done}
 use Rattle.sz_stream.specs.declared.intake.Intake.{Intake}
 use Rattle.sz_stream.specs.declared.stop.Stop.{Stop}
 use Rattle.sz_stream.specs.declared.stop.Stop.TheVariants as stops
-use Rattle.sz_stream.specs.Inputs.{full, nothing, GoesOn, RunsInput, RunsFile}
+use Rattle.sz_stream.specs.Inputs.{nothing, GoesOn, RunsInput, RunsFile}
 use Rattle.sz_stream.specs.Intakes.{CanGoOn, IsFed, IsEmpty, KeepsRound, HasTaken, TakesIn, IsAnswered, Closes, moved_on, done_with, end_of}
 use Rattle.sz_stream.specs.InputRuns.{IsRunning, Reaches, CanRead, HasRound, CanRun, Fills, left_to_read, ReadsPiece, HasTakenAll, TakesAll, IsReady}
 use Rattle.sz_stream.specs.InputRuns.{Gathers, RunsRound, EndsAt, MovesOn, StopsShards, ended_so}

@@ -9,7 +9,7 @@ use Rattle.sz_machine.specs.Ends.{seen_fault}
 use Rattle.sz_total.specs.States.{TotalState}
 use Rattle.sz_records.specs.declared.ending.Ending.{Ending}
 use Rattle.sz_records.specs.declared.ending.Ending.TheVariants as endings
-use Rattle.sz_records.specs.Cutting.{IsCut, place_after, places_of, ends_in}
+use Rattle.sz_records.specs.Cutting.{full, IsCut, place_after, places_of, ends_in}
 use Rattle.sz_records.specs.Ends.{RecordsData}
 use Rattle.sz_records.specs.Shards.{AreShards}
 use Rattle.sz_attempt.specs.declared.job.Job.{Job}
@@ -27,7 +27,7 @@ use Rattle.sz_stream.specs.declared.done.Done.{Done}
 use Rattle.sz_stream.specs.declared.intake.Intake.{Intake}
 use Rattle.sz_stream.specs.declared.stop.Stop.{Stop}
 use Rattle.sz_stream.specs.declared.stop.Stop.TheVariants as stops
-use Rattle.sz_stream.specs.Inputs.{full, nothing, GoesOn, EndsInput, RunsBehind, RunsInput}
+use Rattle.sz_stream.specs.Inputs.{nothing, GoesOn, EndsInput, RunsBehind, RunsInput}
 use Rattle.sz_stream.specs.Intakes.{AreClosed, sum_of, CanGoOn, IsFed, IsEmpty, KeepsRound, HasTaken, TakesIn, Closes, moved_on}
 use Rattle.sz_stream.specs.InputRuns.{HasRun, IsRunning, StopsShards, ended_so}
 use Rattle.sz_stream.proofs.PlaceLemmas.{places_append, places_later, last_place}

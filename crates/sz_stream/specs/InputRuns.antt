@@ -9,7 +9,7 @@ use Rattle.sz_io.specs.declared.error.OutsideError.{OutsideError}
 use Rattle.sz_io.specs.declared.error.OutsideError.TheVariants as outside
 use Rattle.sz_records.specs.declared.ending.Ending.{Ending}
 use Rattle.sz_records.specs.declared.ending.Ending.TheVariants as endings
-use Rattle.sz_records.specs.Cutting.{place_after, ends_in}
+use Rattle.sz_records.specs.Cutting.{full, place_after, ends_in}
 use Rattle.sz_records.specs.Fed.{FramerData}
 use Rattle.sz_records.specs.Shards.{AreShards}
 use Rattle.sz_attempt.specs.declared.job.Job.{Job}
@@ -23,7 +23,7 @@ use Rattle.sz_stream.specs.declared.intake.Intake.{Intake}
 use Rattle.sz_stream.specs.declared.tables.InputTables.{InputTables}
 use Rattle.sz_stream.specs.declared.stop.Stop.{Stop}
 use Rattle.sz_stream.specs.declared.stop.Stop.TheVariants.{Fault, Lost, ReadFailed, NoMemory, Damaged, Limit}
-use Rattle.sz_stream.specs.Inputs.{full, GoesOn}
+use Rattle.sz_stream.specs.Inputs.{GoesOn}
 use Rattle.sz_stream.specs.Intakes.{AreClosed, sum_of, CanGoOn, IsFed}
 
 -- A run goes on after shards that were run. They gave these emits, `front_passed` of their records were passed over, and `passed` with those before them.

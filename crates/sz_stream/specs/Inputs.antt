@@ -1,13 +1,12 @@
 -- What running a job over an input gives.
-use Rattle.std.specs.Prelude.{◌≡◌, ℕ, ◌+◌, ◌*◌, ◌^◌, ◌≤◌, ⊤, Bool, true, List, [], ◌++◌, length, Option, Result, Ok, Err}
+use Rattle.std.specs.Prelude.{◌≡◌, ℕ, ◌+◌, ◌*◌, ◌≤◌, ⊤, Bool, true, List, [], ◌++◌, length, Option, Result, Ok, Err}
 use Rattle.std.specs.Io.KnownBytes.{Consumes, IsAtEnd}
 use Rattle.sz_types.specs.declared.frame.Frame.{Frame}
 use Rattle.sz_tabs.specs.Data.{EmitDatum}
 use Rattle.sz_machine.specs.Ends.{seen_fault}
 use Rattle.sz_records.specs.declared.ending.Ending.{Ending}
 use Rattle.sz_records.specs.declared.ending.Ending.TheVariants as endings
-use Rattle.sz_records.specs.declared.limits.FrameLimits.{FrameLimits}
-use Rattle.sz_records.specs.Cutting.{IsCut}
+use Rattle.sz_records.specs.Cutting.{full, IsCut}
 use Rattle.sz_records.specs.Shards.{AreShards}
 use Rattle.sz_attempt.specs.declared.job.Job.{Job}
 use Rattle.sz_attempt.specs.Ends.{StandForEmits}
@@ -17,10 +16,6 @@ use Rattle.sz_stream.specs.declared.done.Done.{Done}
 use Rattle.sz_stream.specs.declared.tables.InputTables.{InputTables}
 use Rattle.sz_stream.specs.declared.stop.Stop.{Stop}
 use Rattle.sz_stream.specs.declared.stop.Stop.TheVariants.{Fault, Lost, Damaged, Limit, ReadFailed, NoMemory}
-
--- what an input may hold: the bytes of a record, the number of records, and its bytes in all
-abbrev pub full : FrameLimits
-full = record { record_bytes = 4194304; records = 2147483648; input_bytes = 2 ^ 40 }
 
 -- the input begins with what was read, and has no more where its end was reached
 pub record GoesOn (read : List ℕ) (over : Bool) (input : List ℕ) : Type 0 where

@@ -3,14 +3,14 @@ use Rattle.std.specs.Prelude.{◌≡◌, ◌⊎◌, ℕ, ◌+◌, ◌-◌, ◌^�
 use Rattle.sz_types.specs.declared.frame.Frame.{Frame}
 use Rattle.sz_records.specs.declared.ending.Ending.{Ending}
 use Rattle.sz_records.specs.declared.ending.Ending.TheVariants.{Whole}
-use Rattle.sz_records.specs.Cutting.{IsCut}
+use Rattle.sz_records.specs.Cutting.{full, IsCut}
 use Rattle.sz_records.specs.Ends.{RecordsData, no_records, later_of}
 use Rattle.sz_records.specs.Fed.{FramerData, HasReadBehind, EndSo}
 use Rattle.sz_records.specs.Shards.{IsShard}
 use Rattle.sz_rounds.specs.Cuts.{ranges_of}
 use Rattle.sz_stream.specs.declared.done.Done.{Done}
 use Rattle.sz_stream.specs.declared.intake.Intake.{Intake}
-use Rattle.sz_stream.specs.Inputs.{full, GoesOn}
+use Rattle.sz_stream.specs.Inputs.{GoesOn}
 
 -- the first n records are a shard, whatever records are still to come; at the end there are no more
 pub record IsClosed (most : ℕ) (at_end : Bool) (records : List (List ℕ)) (n : ℕ) : Type 0 where

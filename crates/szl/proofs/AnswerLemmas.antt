@@ -42,7 +42,8 @@ use Rattle.szl.specs.Judgement.{IsShort, HasStatements, refused, spells}
 use Rattle.szl.specs.Judging.{IsFailureOf, IsFailureOn}
 use Rattle.szl.specs.Failing.{status_of}
 use Rattle.szl.specs.Promise.{IfRead, OpensFiles}
-use Rattle.szl.specs.Records.{Cut, IsCutInto, limits}
+use Rattle.szl.specs.Records.{Cut, IsCutInto}
+use Rattle.sz_records.specs.Cutting.{full}
 use Rattle.szl.specs.Shards.{shard_sizes, shards_in, job_of}
 use Rattle.szl.specs.ProgramRuns.{GivesStatics, GivesFile, IsJobOf}
 use Rattle.szl.proofs.JudgementLemmas.{every_text_is_read}
@@ -57,7 +58,7 @@ pub record HasRecords (frame : Frame) (input : List ℕ) : Type 0 where
 
 pub cut_of : (frame : Frame) (input : List ℕ) → HasRecords frame input
 cut_of frame input =
-    let c = every_file_is_cut frame limits input in
+    let c = every_file_is_cut frame full input in
     record { cut = record { records = c.records; ending = c.ending }; is_cut = c.cut }
 
 -- a record that faults has a number from 1

@@ -6,7 +6,7 @@ use Rattle.std.proofs.KnownBytes.{Appends-nil}
 use Rattle.std.proofs.Math.Seq.{take-length}
 use Rattle.sz_io.specs.declared.error.WriteError.{WriteError}
 use Rattle.sz_io.specs.declared.error.WriteError.TheVariants as write
-use Rattle.sz_io.specs.Calls.{bytes_taken}
+use Rattle.sz_io.specs.Calls.{GainsLine, bytes_taken}
 use Rattle.sz_io.specs.Rose.{Rose}
 use Rattle.sz_io.specs.declared.files.Files as files
 use Rattle.sz_io.specs.declared.sink.Sink as sink
@@ -20,7 +20,7 @@ use Rattle.szl.specs.Opening.{Decides, Answers, status_of_answer}
 use Rattle.szl.specs.Answers.{Answer, Says, success}
 use Rattle.szl.specs.Outcome.{outcome}
 use Rattle.szl.specs.Printing.{Prints, PrintsNothing}
-use Rattle.szl.specs.Promise.{IsStatusOf, AppendsPrefix, GainsOutput, IsLeftAlone, GainsLine, MeansSource, OpensFiles, line_of, names_asked}
+use Rattle.szl.specs.Promise.{IsStatusOf, AppendsPrefix, GainsOutput, IsLeftAlone, MeansSource, OpensFiles, line_of, names_asked}
 use Rattle.sz_words.specs.Settings.{settings_in}
 use Rattle.szl.proofs.OpenedLemmas.{opened_no_memory, opened_unwritten}
 

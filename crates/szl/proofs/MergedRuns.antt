@@ -24,7 +24,8 @@ use Rattle.sz_save_laws.specs.Runs.{Run, saved_of, together, JoinsRuns, HasTextO
 use Rattle.sz_merge.specs.Laws.{IsOneTogether}
 use Rattle.szl.specs.Answers.{Answer, success}
 use Rattle.szl.specs.Judgement.{spells}
-use Rattle.szl.specs.Records.{Cut, IsCutInto, limits}
+use Rattle.szl.specs.Records.{Cut, IsCutInto}
+use Rattle.sz_records.specs.Cutting.{full}
 use Rattle.szl.specs.Shards.{shards_in, job_of}
 use Rattle.szl.specs.Savable.{savable}
 use Rattle.szl.specs.Outcome.{written, outcome_of_run}
@@ -67,7 +68,7 @@ means_emits job n (r ∷ rs) =
 -- the emits of a run are those of its records
 module _ (s : RunSettings) (input : List ℕ) (cut : Cut) (is_cut : IsCutInto s.frame input cut) where
   few_records : length cut.records ≤ 2 ^ 31
-  few_records = let counted = records_are_few s.frame limits 0 0 input cut.records cut.ending (omega arith) is_cut in omega (arith, counted)
+  few_records = let counted = records_are_few s.frame full 0 0 input cut.records cut.ending (omega arith) is_cut in omega (arith, counted)
 
   own_emits : {types : List TypeShape} {ss : Stms} (f : Finished types s cut ss) → f.emits ≡ emits_of f.program f.slots s.budget cut.records
   own_emits f =

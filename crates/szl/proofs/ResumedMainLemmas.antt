@@ -23,7 +23,8 @@ use Rattle.sz_words.specs.declared.error.WordsError.TheVariants as words_errors
 use Rattle.sz_words.specs.Settings.{settings_in}
 use Rattle.szl.proofs.AfterLemmas.{words_fail}
 use Rattle.szl.proofs.ResumeLemmas.{nothing_answered}
-use Rattle.szl.specs.Promise.{IsStatusOf, GainsOutput, IsLeftAlone, GainsLine, OpensFiles, line_of}
+use Rattle.szl.specs.Promise.{IsStatusOf, GainsOutput, IsLeftAlone, OpensFiles, line_of}
+use Rattle.sz_io.specs.Calls.{GainsLine}
 use Rattle.szl.specs.ResumePromise.{ByCommand, IfKnown, IsJobOutcome, IsStatusOnDisk, MeansJob, CompletesJob, KeepsJob, KeepsJournal, IfRun}
 use Rattle.szl.specs.ResumePromise.{free_status, line_on_disk, names_on_disk}
 use Rattle.szl.specs.JournalRuns.{as_memory, AnswersJob}

@@ -16,8 +16,8 @@ pub mod Promise
 pub mod Completeness
 pub mod Resuming
 pub mod ResumePromise
--- what the functions inside the crate promise each other
 pub mod Failing
+-- what the functions inside the crate promise each other
 pub mod Opening
 pub mod MergeAnswers
 pub mod ProtoReads

@@ -1,9 +1,9 @@
 -- What a call of the program promises.
-use Rattle.std.specs.Prelude.{◌≡◌, ◌≢◌, ℕ, ◌≤◌, ◌⊎◌, ⊤, Bool, IsTrue, List, [], ◌∷◌, ◌++◌, length, take, Option, Some, IfSome, IsSome, option_to_list}
+use Rattle.std.specs.Prelude.{◌≡◌, ◌≢◌, ℕ, ◌≤◌, ⊤, Bool, IsTrue, List, [], ◌∷◌, ◌++◌, length, take, Option, Some, IfSome, IsSome, option_to_list}
 use Rattle.std.specs.Io.KnownBytes.{Appends, IsAtEnd}
 use Rattle.sz_feed.specs.Feed.{file_of}
 use Rattle.sz_feed.specs.Program.{program_text}
-use Rattle.sz_io.specs.Rose.{Rose}
+use Rattle.sz_io.specs.Calls.{GainsLine}
 use Rattle.sz_io.specs.declared.files.Files as files
 use Rattle.sz_io.specs.declared.sink.Sink as sink
 use Rattle.szl.specs.declared.status.Status.{Status}
@@ -53,12 +53,6 @@ line_of answer ReadFailed = read_failed_line
 line_of answer WriteFailed = write_failed_line
 line_of answer NoMemory = no_memory_line
 line_of answer status = answer.line
-
--- a sink gained the line, or a prefix of it where one of the sink's two counts rose
-pub record GainsLine {S : Type 0} (the_sink : sink.Ghosts S) (old new : S) (line : List ℕ) : Type 0 where
-  pub count : ℕ
-  pub appends : Appends (the_sink.taken old) (the_sink.taken new) (take count line)
-  pub whole : (length line ≤ count) ⊎ (Rose (the_sink.faults old) (the_sink.faults new) ⊎ Rose (the_sink.refusals old) (the_sink.refusals new))
 
 -- the names that settings may open after a `.proto` file, in order: the program, and then the input of a run; or the files to be joined
 abbrev pub later_names : Option Settings → List (List ℕ)

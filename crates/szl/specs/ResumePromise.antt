@@ -31,7 +31,8 @@ use Rattle.szl.specs.Answers.{Answer, disk_failed_line}
 use Rattle.szl.specs.Judgement.{Reading, IsRead, spells}
 use Rattle.szl.specs.Outcome.{outcome_of_shards, outcome_of_statics}
 use Rattle.szl.specs.ProtoFiles.{IsFileRead, IsOfFile}
-use Rattle.szl.specs.Promise.{IfRead, IsStatusOf, GainsOutput, IsLeftAlone, GainsLine, OpensFiles, line_of, names_asked}
+use Rattle.szl.specs.Promise.{IfRead, IsStatusOf, GainsOutput, IsLeftAlone, OpensFiles, line_of, names_asked}
+use Rattle.sz_io.specs.Calls.{GainsLine}
 use Rattle.szl.specs.Records.{Cut, IsCutInto}
 use Rattle.szl.specs.Resuming.{kept_job, source_of, unless_journal, outcome_of_resume}
 use Rattle.szl.specs.Savable.{savable}

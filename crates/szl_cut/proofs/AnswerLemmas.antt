@@ -6,12 +6,11 @@ use Rattle.std.proofs.lemmas.List.{take_all}
 use Rattle.sz_io.specs.declared.error.WriteError.{WriteError}
 use Rattle.sz_io.specs.declared.error.WriteError.TheVariants as write
 use Rattle.sz_io.specs.declared.sink.Sink as sink
-use Rattle.sz_io.specs.Calls.{bytes_taken}
+use Rattle.sz_io.specs.Calls.{GainsLine, bytes_taken}
 use Rattle.sz_io.specs.Rose.{Rose}
 use Rattle.szl_cut.specs.declared.failure.Failure.{Failure}
 use Rattle.szl_cut.specs.declared.failure.Failure.TheVariants.{Usage, Damaged, Limit, ReadFailed, WriteFailed, NoMemory}
 use Rattle.szl_cut.specs.Answers.{Asked, size_in, asked_in, IsFor, IsWhy}
-use Rattle.szl_cut.specs.Promise.{GainsLine}
 
 -- the line was written whole, or a front of it where a count of the sink rose
 pub line_told : {E : Type 0} (the_err : sink.Ghosts E) (old new : E) (line : List ℕ) (result : Result (Unit {0}) WriteError)

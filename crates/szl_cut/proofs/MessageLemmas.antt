@@ -8,11 +8,10 @@ use Rattle.sz_types.specs.declared.frame.Frame.TheVariants.{Delimited}
 use Rattle.sz_wire.specs.Varint.{low_bits, number_at, in_64_bits, varint_at}
 use Rattle.sz_records.specs.declared.ending.Ending.{Ending}
 use Rattle.sz_records.specs.declared.ending.Ending.TheVariants.{Whole, Damaged, Limit}
-use Rattle.sz_records.specs.Cutting.{Standing, record_of, stopped, unfinished, by_limits, sized_standing, length_standing, frame_standing, standing, at_end, EndsHere, BeginsWith, IsCut}
+use Rattle.sz_records.specs.Cutting.{full, Standing, record_of, stopped, unfinished, by_limits, sized_standing, length_standing, frame_standing, standing, at_end, EndsHere, BeginsWith, IsCut}
 use Rattle.sz_records.proofs.CutLemmas.{cut_record, cut_end}
 use Rattle.sz_records.proofs.StayLemmas.{record_stays}
 use Rattle.sz_records.proofs.StandingLemmas.{never_whole}
-use Rattle.szl_cut.specs.Cuts.{full}
 
 -- a number stands at the front of these bytes, whatever comes behind it
 record ReadsFront (read : List ℕ → Option (ℕ × List ℕ)) (bytes : List ℕ) (n : ℕ) (rest : List ℕ) : Type 0 where

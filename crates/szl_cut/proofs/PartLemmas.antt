@@ -7,9 +7,9 @@ use Rattle.std.proofs.lemmas.Nat.{le-div}
 use Rattle.std.proofs.Math.Nat.{div-mul-le_self}
 use Rattle.sz_types.specs.declared.frame.Frame.TheVariants.{Delimited}
 use Rattle.sz_records.specs.declared.ending.Ending.TheVariants.{Whole}
-use Rattle.sz_records.specs.Cutting.{record_of, standing, IsCut, place_after, places_of}
+use Rattle.sz_records.specs.Cutting.{full, record_of, standing, IsCut, place_after, places_of}
 use Rattle.sz_records.proofs.CutLemmas.{place_now, place_passed, same_places}
-use Rattle.szl_cut.specs.Cuts.{full, cuts}
+use Rattle.szl_cut.specs.Cuts.{cuts}
 use Rattle.szl_cut.specs.Parts.{parts, IsPart, HoldTogether}
 use Rattle.szl_cut.proofs.MessageLemmas.{nothing_cut, one_alone, none_left, FirstStands, first_stands, message_within, joined}
 

@@ -7,7 +7,7 @@ use Rattle.std.proofs.KnownBytes.{Consumes-trans}
 use Rattle.sz_types.specs.declared.frame.Frame.TheVariants.{Delimited}
 use Rattle.sz_records.specs.declared.ending.Ending.{Ending}
 use Rattle.sz_records.specs.declared.ending.Ending.TheVariants as endings
-use Rattle.sz_records.specs.Cutting.{IsCut, place_after, places_of, ends_in}
+use Rattle.sz_records.specs.Cutting.{full, IsCut, place_after, places_of, ends_in}
 use Rattle.sz_records.specs.Ends.{RecordsData, no_records}
 use Rattle.sz_records.specs.Fed.{FramerData, HasRead, Fixes, Adds, Feeds, EndAsFed, EndAsFinished}
 use Rattle.sz_records.specs.Fed as fed
@@ -15,7 +15,7 @@ use Rattle.sz_records.proofs.FedLemmas.{read_within}
 use Rattle.szl_cut.specs.declared.failure.Failure.{Failure}
 use Rattle.szl_cut.specs.declared.failure.Failure.TheVariants.{Usage, Damaged, Limit, ReadFailed, WriteFailed, NoMemory}
 use Rattle.szl_cut.specs.declared.progress.Progress.{Progress}
-use Rattle.szl_cut.specs.Cuts.{full, cuts, IsCutAt, Ends}
+use Rattle.szl_cut.specs.Cuts.{cuts, IsCutAt, Ends}
 use Rattle.szl_cut.specs.Answers.{IsFor}
 use Rattle.szl_cut.specs.Reading.{IsAt, Notes, ended_so, TakesIn, Takes, Finishes, FinishesNot, Reaches, ReadsOn, IsReadOut}
 

@@ -1,14 +1,9 @@
 -- Where a file of messages is cut.
-use Rattle.std.specs.Prelude.{◌≡◌, ℕ, ◌/◌, ◌^◌, List, [], ◌∷◌, length, nat_lt, if◌then◌else◌}
+use Rattle.std.specs.Prelude.{◌≡◌, ℕ, ◌/◌, List, [], ◌∷◌, length, nat_lt, if◌then◌else◌}
 use Rattle.sz_types.specs.declared.frame.Frame.TheVariants.{Delimited}
 use Rattle.sz_records.specs.declared.ending.Ending.{Ending}
 use Rattle.sz_records.specs.declared.ending.Ending.TheVariants.{Whole}
-use Rattle.sz_records.specs.declared.limits.FrameLimits.{FrameLimits}
-use Rattle.sz_records.specs.Cutting.{IsCut, ends_in}
-
--- what a file may hold: the bytes of a message, the number of messages, and its bytes in all
-abbrev pub full : FrameLimits
-full = record { record_bytes = 4194304; records = 2147483648; input_bytes = 2 ^ 40 }
+use Rattle.sz_records.specs.Cutting.{full, IsCut, ends_in}
 
 -- Where the file is cut, of messages that end at these places: in front of each that is the first to begin at a multiple of the size, or past it.
 -- The first of them begins at `start`, and the one before it at `before`

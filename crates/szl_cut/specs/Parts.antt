@@ -2,8 +2,7 @@
 use Rattle.std.specs.Prelude.{◌≡◌, ℕ, ◌-◌, List, [], ◌∷◌, take, drop}
 use Rattle.sz_types.specs.declared.frame.Frame.TheVariants.{Delimited}
 use Rattle.sz_records.specs.declared.ending.Ending.TheVariants.{Whole}
-use Rattle.sz_records.specs.Cutting.{IsCut}
-use Rattle.szl_cut.specs.Cuts.{full}
+use Rattle.sz_records.specs.Cutting.{full, IsCut}
 
 -- the bytes from a place of a file on, cut at the places behind it
 abbrev pub parts : ℕ → List ℕ → List ℕ → List (List ℕ)

@@ -1,7 +1,6 @@
 -- What a call writes and opens.
-use Rattle.std.specs.Prelude.{◌≡◌, ℕ, ◌<◌, ◌≤◌, ◌⊎◌, Bool, true, false, List, length, take, Option, Some, None, IfSome, Result, Err}
+use Rattle.std.specs.Prelude.{◌≡◌, ℕ, ◌<◌, ◌⊎◌, Bool, true, false, List, length, take, Option, Some, None, IfSome, Result, Err}
 use Rattle.std.specs.Io.KnownBytes.{Appends}
-use Rattle.sz_io.specs.Rose.{Rose}
 use Rattle.sz_io.specs.Calls.{NamesGain}
 use Rattle.sz_io.specs.declared.files.Files as files
 use Rattle.sz_io.specs.declared.sink.Sink as sink
@@ -35,12 +34,6 @@ abbrev pub Leaves : {O : Type 0} → sink.Ghosts O → (List ℕ → Option (Lis
 Leaves the_out held asked WriteFailed old new = WritesSome held asked (the_out.taken old) (the_out.taken new)
 Leaves the_out held asked NoMemory old new = (new ≡ old) ⊎ WritesSome held asked (the_out.taken old) (the_out.taken new)
 Leaves the_out held asked failure old new = new ≡ old
-
--- a sink gained the line, or a prefix of it where one of the sink's two counts rose
-pub record GainsLine {E : Type 0} (the_err : sink.Ghosts E) (old new : E) (line : List ℕ) : Type 0 where
-  pub count : ℕ
-  pub appends : Appends (the_err.taken old) (the_err.taken new) (take count line)
-  pub whole : (length line ≤ count) ⊎ (Rose (the_err.faults old) (the_err.faults new) ⊎ Rose (the_err.refusals old) (the_err.refusals new))
 
 -- whether memory ran out
 abbrev pub ran_out : {T : Type 0} → Result T Failure → Bool

@@ -4,13 +4,13 @@ use Rattle.std.specs.Io.KnownBytes.{Appends, Consumes, IsAtEnd}
 use Rattle.sz_types.specs.declared.frame.Frame.TheVariants.{Delimited}
 use Rattle.sz_records.specs.declared.ending.Ending.{Ending}
 use Rattle.sz_records.specs.declared.ending.Ending.TheVariants as endings
-use Rattle.sz_records.specs.Cutting.{ends_in}
+use Rattle.sz_records.specs.Cutting.{full, ends_in}
 use Rattle.sz_records.specs.Ends.{no_records}
 use Rattle.sz_records.specs.Fed.{FramerData, HasRead}
 use Rattle.szl_cut.specs.declared.failure.Failure.{Failure}
 use Rattle.szl_cut.specs.declared.failure.Failure.TheVariants.{Damaged, Limit}
 use Rattle.szl_cut.specs.declared.progress.Progress.{Progress}
-use Rattle.szl_cut.specs.Cuts.{full, cuts, IsCutAt}
+use Rattle.szl_cut.specs.Cuts.{cuts, IsCutAt}
 use Rattle.szl_cut.specs.Answers.{IsFor}
 
 -- a front of the bytes was written, but not all of them

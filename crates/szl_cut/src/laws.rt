@@ -2,8 +2,8 @@
 ghost use Rattle.std.specs.Prelude.{◌-◌, ◌/◌, ◌≤◌, ℕ, List, length};
 ghost use Rattle.sz_types.specs.declared.frame.Frame.TheVariants.{Delimited};
 ghost use Rattle.sz_records.specs.declared.ending.Ending.TheVariants.{Whole};
-ghost use Rattle.sz_records.specs.Cutting.{IsCut};
-ghost use Rattle.szl_cut.specs.Cuts.{full, file_cuts};
+ghost use Rattle.sz_records.specs.Cutting.{full, IsCut};
+ghost use Rattle.szl_cut.specs.Cuts.{file_cuts};
 ghost use Rattle.szl_cut.specs.Parts.{parts, HoldTogether};
 
 /// Each part of a whole file is a whole file by itself, and their messages, one part's after the other's, are those of the file.

@@ -3,9 +3,9 @@ ghost use Rattle.std.specs.Prelude.{◌≡◌, ◌≤◌, ◌<◌, ◌⊎◌, If
 ghost use Rattle.std.specs.Io.KnownBytes.{Appends};
 ghost use Rattle.sz_io.specs.Rose.{Rose};
 ghost use Rattle.sz_io.specs.Opened.{KeepsFiles};
-ghost use Rattle.sz_io.specs.Calls.{ReadToEnd};
+ghost use Rattle.sz_io.specs.Calls.{GainsLine, ReadToEnd};
 ghost use Rattle.szl_cut.specs.Answers.{asked_in, size_in, IsWhy, line_of};
-ghost use Rattle.szl_cut.specs.Promise.{Writes, Leaves, GainsLine, OpensAsked, ran_out};
+ghost use Rattle.szl_cut.specs.Promise.{Writes, Leaves, OpensAsked, ran_out};
 ghost use Rattle.szl_cut.specs.Reading.{AppendsPart};
 
 use crate::cut::cut_places;

@@ -9,7 +9,7 @@ use Rattle.std.specs.declared.alloc.AllocError.{AllocError}
 use Rattle.sz_io.specs.declared.error.WriteError.{WriteError}
 use Rattle.sz_io.specs.declared.error.WriteError.TheVariants as write
 use Rattle.sz_io.specs.declared.sink.Sink as sink
-use Rattle.sz_io.specs.Calls.{bytes_taken}
+use Rattle.sz_io.specs.Calls.{GainsLine, bytes_taken}
 use Rattle.sz_io.specs.Rose.{Rose}
 use Rattle.sz_lex.specs.Tokens.{first_place}
 use Rattle.sz_check_rules.specs.declared.cause.Cause.TheVariants.{TooLong}
@@ -18,7 +18,7 @@ use Rattle.szl_explain_judge.specs.Refusing.{IsProgram, IsRefused, refusal_at, r
 use Rattle.szl_explain.specs.declared.explanation.Explanation.{Explanation}
 use Rattle.szl_explain.specs.declared.program.Status.{Status}
 use Rattle.szl_explain.specs.declared.program.Status.TheVariants.{Done, Usage, Program, ReadFailed, WriteFailed, NoMemory}
-use Rattle.szl_explain.specs.Answers.{first_line, status_of, Explains, WritesSome, IsAnswer, GainsLine}
+use Rattle.szl_explain.specs.Answers.{first_line, status_of, Explains, WritesSome, IsAnswer}
 use Rattle.szl_explain.specs.Writing.{AppendsPart, Prints}
 
 -- the line was written whole, or a front of it where a count of the sink rose

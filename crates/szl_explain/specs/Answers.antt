@@ -1,8 +1,7 @@
 -- What a command line is answered.
-use Rattle.std.specs.Prelude.{◌≡◌, ℕ, ◌<◌, ◌≤◌, ◌⊎◌, ◌&&◌, ◌==◌, Bool, true, false, List, [], ◌∷◌, ◌++◌, length, take, nat_lt, slice_index_or, codes}
+use Rattle.std.specs.Prelude.{◌≡◌, ℕ, ◌<◌, ◌⊎◌, ◌&&◌, ◌==◌, Bool, true, false, List, [], ◌∷◌, ◌++◌, length, take, nat_lt, slice_index_or, codes}
 use Rattle.std.specs.Prelude.{Option, Some, None, IfSome, IfNone, if◌then◌else◌}
 use Rattle.std.specs.Io.KnownBytes.{Appends}
-use Rattle.sz_io.specs.Rose.{Rose}
 use Rattle.sz_io.specs.Calls.{NamesGain}
 use Rattle.sz_io.specs.declared.files.Files as files
 use Rattle.sz_io.specs.declared.sink.Sink as sink
@@ -88,12 +87,6 @@ IsAnswer the_out told status old new = Writes told status (the_out.taken old) (t
 abbrev pub Answers : {O : Type 0} → sink.Ghosts O → (List ℕ → Option (List ℕ)) → Option (List ℕ) → Status → O → O → Type 0
 Answers the_out held None status old new = (status ≡ Usage) × (new ≡ old)
 Answers the_out held (Some name) status old new = IsAnswer the_out (held name) status old new
-
--- a sink gained the line, or a prefix of it where one of the sink's two counts rose
-pub record GainsLine {E : Type 0} (the_err : sink.Ghosts E) (old new : E) (line : List ℕ) : Type 0 where
-  pub count : ℕ
-  pub appends : Appends (the_err.taken old) (the_err.taken new) (take count line)
-  pub whole : (length line ≤ count) ⊎ (Rose (the_err.faults old) (the_err.faults new) ⊎ Rose (the_err.refusals old) (the_err.refusals new))
 
 -- whether memory ran out
 abbrev pub ran_out : Status → Bool

@@ -3,8 +3,8 @@ ghost use Rattle.std.specs.Prelude.{◌≡◌, ◌<◌, ◌++◌, ℕ, [], Err, 
 ghost use Rattle.std.specs.Io.KnownBytes.{Appends};
 ghost use Rattle.sz_io.specs.Rose.{Rose};
 ghost use Rattle.sz_io.specs.Opened.{KeepsFiles};
-ghost use Rattle.sz_io.specs.Calls.{NamesGain, ReadToEnd};
-ghost use Rattle.szl_explain.specs.Answers.{asked_in, is_option, code_of, line_of, status_of, ran_out, Answers, IsAnswer, GainsLine, OpensAsked};
+ghost use Rattle.sz_io.specs.Calls.{GainsLine, NamesGain, ReadToEnd};
+ghost use Rattle.szl_explain.specs.Answers.{asked_in, is_option, code_of, line_of, status_of, ran_out, Answers, IsAnswer, OpensAsked};
 ghost use Rattle.szl_explain.specs.Writing.{AppendsPart, Prints};
 
 use crate::explanation::{Explanation, explain, explain_too_long};

@@ -1,5 +1,5 @@
 use Rattle.std.proofs.Common.{subst}
-use Rattle.szl.specs.Promise.{GainsLine}
+use Rattle.sz_io.specs.Calls.{GainsLine}
 use Rattle.szl.proofs.MainLemmas.{line_told}
 use Rattle.szl.proofs.top.tell_line.Goals as goal
 

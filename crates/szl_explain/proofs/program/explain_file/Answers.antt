@@ -1,6 +1,6 @@
 -- The line was written, or a prefix of it where a count rose.
 use Rattle.std.proofs.Common.{subst}
-use Rattle.szl_explain.specs.Answers.{GainsLine}
+use Rattle.sz_io.specs.Calls.{GainsLine}
 use Rattle.szl_explain.proofs.AnswerLemmas.{line_told}
 use Rattle.szl_explain.proofs.program.explain_file.Goals as goal
 

@@ -1,6 +1,5 @@
 use Rattle.std.proofs.Common.{◌+◌, ◌-◌, sym, ap, ◌∙◌}
-use Rattle.sz_records.specs.Cutting.{place_after}
-use Rattle.sz_stream.specs.Inputs.{full}
+use Rattle.sz_records.specs.Cutting.{full, place_after}
 use Rattle.sz_stream.proofs.PlaceLemmas.{got_there}
 use Rattle.sz_stream.proofs.ReachLemmas.{ends_at}
 use Rattle.sz_stream.proofs.intake.Intake.done_with.Goals as goal
