@@ -10,5 +10,6 @@ pub mod SureFiles
 pub mod SureSink
 pub mod OsSink
 pub mod OsFiles
+pub mod Words
 -- what the functions inside the crate promise each other
 pub mod Placed

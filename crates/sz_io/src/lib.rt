@@ -14,6 +14,7 @@ mod reading;
 mod sink;
 mod sure_files;
 mod sure_sink;
+mod words;
 mod writing;
 
 pub use error::{Failed, NoMemory, OutsideError, ReadError, WriteError};
@@ -27,4 +28,5 @@ pub use reading::read_whole;
 pub use sink::Sink;
 pub use sure_files::SureFiles;
 pub use sure_sink::SureSink;
+pub use words::is_file_name;
 pub use writing::write_whole;
