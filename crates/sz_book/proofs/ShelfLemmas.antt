@@ -1,8 +1,9 @@
 -- The lanes stay in place: those that are home are here, with the shards that the state has for them.
-use Rattle.std.proofs.Common.{◌≡◌, ◌≢◌, ℕ, zero, suc, ◌+◌, ◌<◌, ◌==◌, Bool, true, false, cond, nat_lt, List, [], ◌∷◌, ◌++◌, set, map, length, replicate, refl, ap, sym, ◌∙◌, subst, arith, Option, Some, None}
-use Rattle.std.specs.Prelude.{slice_index, slice_index_or}
+use Rattle.std.proofs.Common.{◌≡◌, ◌≢◌, ℕ, zero, suc, ◌+◌, ◌<◌, ◌==◌, Bool, true, false, cond, nat_lt, List, [], ◌∷◌, ◌++◌, set, map, length, replicate, refl, ap, sym, ◌∙◌, subst, arith, append_assoc, append-nil, Option, Some, None}
+use Rattle.std.specs.Prelude.{slice_index, slice_index_or, option_to_list}
 use Rattle.std.proofs.lemmas.Bool.{eqb-true, eqb-false}
 use Rattle.std.proofs.lemmas.List.{get_or-set_same, get_or-set_other, length-set, length-map, length-replicate, append_cancel_left}
+use Rattle.std.proofs.lemmas.List.Elements.{filter_map-append}
 use Rattle.sz_book_rules.specs.Plan.{PlanData, count_of}
 use Rattle.sz_book_rules.specs.declared.event.Event.{Event}
 use Rattle.sz_book_rules.specs.declared.event.Event.TheVariants.{Draw, Number, Died, Settle, LaneOut, LaneBack, Bad}
@@ -11,7 +12,7 @@ use Rattle.sz_book_rules.specs.declared.event.Reply.TheVariants.{Lane}
 use Rattle.sz_book_rules.specs.Machine.{LedgerState, opening, after, Fits, list_of}
 use Rattle.sz_book.specs.Lanes.{LaneData}
 use Rattle.sz_book.specs.Held.{Applies}
-use Rattle.sz_book.specs.Books.{ShelfData, IsInPlace, AreInPlace, IsPlain, Homes, IsGiven, HaveNoShards}
+use Rattle.sz_book.specs.Books.{ShelfData, IsInPlace, AreInPlace, IsPlain, Homes, IsGiven, HaveNoShards, lanes_home}
 use Rattle.sz_book_rules.proofs.StepLemmas.{either}
 use Rattle.sz_book.proofs.ReplayLemmas.{zero_at}
 
@@ -118,3 +119,11 @@ is_given old new i lane back reply is t homes = record {
       (subst (λ (r : Reply). Applies old.ledger (LaneBack i) back r new.ledger) t.step.answer t, homes);
   dropped = λ none. absurd (none back is t.step.fits);
 }
+
+-- the lanes that were taken, with the lane of one more home where it is there
+pub one_more_home : (before taken : List LaneData) (homes : List (Option LaneData)) (home : Option LaneData) → taken ≡ before ++ lanes_home homes
+    → taken ++ option_to_list home ≡ before ++ lanes_home (homes ++ home ∷ [])
+one_more_home before taken homes (Some lane) is = ap (λ (l : List LaneData). l ++ lane ∷ []) is ∙ append_assoc before (lanes_home homes) (lane ∷ [])
+    ∙ ap (λ (l : List LaneData). before ++ l) (sym (filter_map-append (λ (o : Option LaneData). o) homes (Some lane ∷ [])))
+one_more_home before taken homes None is = append-nil taken ∙ is
+    ∙ ap (λ (l : List LaneData). before ++ l) (sym (filter_map-append (λ (o : Option LaneData). o) homes (None ∷ []) ∙ append-nil (lanes_home homes)))

@@ -1,5 +1,6 @@
 -- What a lock round a ledger with its history keeps, and what the calls of a book say.
 use Rattle.std.specs.Prelude.{◌≡◌, ◌⊎◌, ℕ, ◌<◌, ◌≤◌, true, false, List, [], ◌∷◌, ◌++◌, length, slice_index, slice_index_or, slice_set, Option, Some, None}
+use Rattle.std.specs.List.{filter_map}
 use Rattle.sz_book_rules.specs.Plan.{PlanData, count_of}
 use Rattle.sz_book_rules.specs.declared.claim.Claim.{Claim}
 use Rattle.sz_book_rules.specs.declared.event.Event.{Event}
@@ -94,8 +95,15 @@ pub record Shows (x : LedgerState) (won died : List ℕ) (bad : Option ℕ) : Ty
   pub deaths : (s : ℕ) → s < length died → slice_index died s ≡ slice_index x.deaths s
   pub least_bad : least_or_none bad ≡ x.least_bad
 
--- what is left of a ledger shows the state that some history leads to, whose reports are true
-pub record IsLeft (died : ℕ → ℕ → Type 0) (faults : ℕ → Type 0) (won notes : List ℕ) (bad : Option ℕ) : Type 0 where
-  pub ledger : HeldData
-  pub replays : Replays died faults ledger
-  pub shows : Shows ledger.state won notes bad
+-- the lanes that are home, in the order of the lanes
+abbrev pub lanes_home : List (Option LaneData) → List LaneData
+lanes_home homes = filter_map (λ home. home) homes
+
+-- What is left of a shelf: just the lanes that it has at home, in their order and each with the shards that the state has for it, and
+-- rows that show the state. Some history leads to that state, and its reports are true
+pub record IsLeft (died : ℕ → ℕ → Type 0) (faults : ℕ → Type 0) (shelf : ShelfData)
+    (lanes : List LaneData) (won notes : List ℕ) (bad : Option ℕ) : Type 0 where
+  pub replays : Replays died faults shelf.ledger
+  pub placed : AreInPlace shelf.ledger.state shelf.homes
+  pub lanes_are : lanes ≡ lanes_home shelf.homes
+  pub shows : Shows shelf.ledger.state won notes bad

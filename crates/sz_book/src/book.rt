@@ -1,7 +1,7 @@
 //! The ledger of a round that threads share by a lock.
 ghost use Rattle.std.specs.Prelude.{◌≡◌, ◌+◌, ◌<◌, ◌^◌, length, replicate, IfOk, IfSome, IfNone};
 ghost use Rattle.sz_book_rules.specs.History.{IsTrueReport};
-ghost use Rattle.sz_book.specs.Books.{IsClaim, IsPlain, HaveNoShards, IsLeft};
+ghost use Rattle.sz_book.specs.Books.{ShelfData, IsClaim, IsPlain, HaveNoShards, IsLeft};
 
 use crate::NoMemory;
 use crate::closed::Closed;
@@ -161,22 +161,25 @@ impl<T: Load> Book<T> {
     }
 
     /// The next ticket. None where all are drawn.
-    pub fn draw<W: Wait>(&self, rt: &W, _pass: &mut BookPass) -> Option<Claim>
+    pub fn draw<W: Wait>(&self, rt: &W, pass: &mut BookPass) -> Option<Claim>
         ensures claim { IfSome result (λ claim. IsClaim self.now.plan claim) }
+        ensures kept { pass.new ≡ pass.old }
     {
         claim_in(&self.plan, self.ask(rt, &Event::Draw))
     }
 
     /// The number of the next attempt on the claim's shard, counted from 0. None where all are given, or the claim was not drawn.
-    pub fn number<W: Wait>(&self, rt: &W, _pass: &mut BookPass, claim: &Claim) -> Option<u32>
+    pub fn number<W: Wait>(&self, rt: &W, pass: &mut BookPass, claim: &Claim) -> Option<u32>
         ensures number { IfSome result (λ number. number < self.now.plan.attempts) }
+        ensures kept { pass.new ≡ pass.old }
     {
         number_in(&self.plan, self.ask(rt, &Event::Number(*claim)))
     }
 
     /// Reports that an attempt died.
-    pub fn died<W: Wait>(&self, rt: &W, _pass: &mut BookPass, claim: &Claim, number: u32)
+    pub fn died<W: Wait>(&self, rt: &W, pass: &mut BookPass, claim: &Claim, number: u32)
         requires died { T.died claim.now.shard number }
+        ensures kept { pass.new ≡ pass.old }
     {
         self.ask(rt, &Event::Died(*claim, number));
     }
@@ -186,11 +189,13 @@ impl<T: Load> Book<T> {
     pub fn settle<W: Wait>(
         &self,
         rt: &W,
-        _pass: &mut BookPass,
+        pass: &mut BookPass,
         claim: &Claim,
         number: u32,
     ) -> Settled
         ensures won { IsWon result (λ receipt. receipt ≡ record { plan = self.now.plan; shard = claim.now.shard }) }
+        ensures claim { IsWon result (λ _. IsClaim self.now.plan claim.now) }
+        ensures kept { pass.new ≡ pass.old }
     {
         if !self.plan.names(claim) {
             return Settled::Late(number);
@@ -203,19 +208,24 @@ impl<T: Load> Book<T> {
     }
 
     /// Lends a lane, where it is home. None where it is out, or there is no such lane.
-    pub fn lend<W: Wait>(&self, rt: &W, _pass: &mut BookPass, lane_no: u32) -> Option<Lane<T>> {
+    pub fn lend<W: Wait>(&self, rt: &W, pass: &mut BookPass, lane_no: u32) -> Option<Lane<T>>
+        ensures kept { pass.new ≡ pass.old }
+    {
         self.shelf.lock(rt).lend(lane_no)
     }
 
     /// Gives back a lane. It is dropped where it isn't out, or where it doesn't have the shards that it was lent with, and after them
     /// further ones that are distinct, won and in no lane.
-    pub fn give<W: Wait>(&self, rt: &W, _pass: &mut BookPass, lane_no: u32, lane: Lane<T>) {
+    pub fn give<W: Wait>(&self, rt: &W, pass: &mut BookPass, lane_no: u32, lane: Lane<T>)
+        ensures kept { pass.new ≡ pass.old }
+    {
         self.shelf.lock(rt).give(lane_no, lane);
     }
 
     /// Reports that a shard is bad: more of its records fault than may be passed over. Shards are numbered from 0.
-    pub fn bad<W: Wait>(&self, rt: &W, _pass: &mut BookPass, shard: u32)
+    pub fn bad<W: Wait>(&self, rt: &W, pass: &mut BookPass, shard: u32)
         requires faults { T.faults shard }
+        ensures kept { pass.new ≡ pass.old }
     {
         self.ask(rt, &Event::Bad(shard));
     }
@@ -223,7 +233,7 @@ impl<T: Load> Book<T> {
     /// What the book has at its end: the lanes that are home, and the rows of the state.
     pub fn close<W: Wait>(self, _rt: &W, _pass: BookPass) -> Closed<T>
         ensures rows { (length result.settled ≡ self.plan.shards) × (length result.deaths ≡ self.plan.shards) }
-        ensures left { IsLeft T.died T.faults result.settled result.deaths result.least_bad }
+        ensures left { (shelf : ShelfData) × IsLeft T.died T.faults shelf result.lanes.items result.settled result.deaths result.least_bad }
     {
         let Book {
             plan: _,

@@ -1,8 +1,8 @@
 //! What the lock of a book guards.
-ghost use Rattle.std.specs.Prelude.{◌≡◌, ◌+◌, ◌<◌, ◌≤◌, ◌^◌, [], length, vec_len, vec_capacity, map, Some, IfSome, IfNone, IfOk};
+ghost use Rattle.std.specs.Prelude.{◌≡◌, ◌+◌, ◌<◌, ◌≤◌, ◌^◌, ◌++◌, [], length, vec_len, vec_capacity, map, Some, IfSome, IfNone, IfOk};
 ghost use Rattle.sz_book_rules.specs.Machine.{opening};
 ghost use Rattle.sz_book_rules.specs.History.{IsTrueReport};
-ghost use Rattle.sz_book.specs.Books.{IsPlain, Refuses, Lends, LendsNone, IsGiven, IsLeft, HaveNoShards};
+ghost use Rattle.sz_book.specs.Books.{IsPlain, Refuses, Lends, LendsNone, IsGiven, IsLeft, HaveNoShards, lanes_home};
 ghost use Rattle.sz_book.specs.Books.{Takes as AsksAndTakes};
 
 use crate::NoMemory;
@@ -116,10 +116,10 @@ impl<T: Load> Shelf<T> {
         self.homes[lane_no as usize] = Some(lane);
     }
 
-    /// What is left of the ledger, with rows for the winners and the deaths.
+    /// What is left of the shelf: the lanes that are home, in their order, and the rows for the winners and the deaths.
     pub fn close(self, settled: Vec<u64>, deaths: Vec<u64>) -> Closed<T>
         ensures rows { (length result.settled ≡ length settled.items) × (length result.deaths ≡ length deaths.items) }
-        ensures left { IsLeft T.died T.faults result.settled result.deaths result.least_bad }
+        ensures left { IsLeft T.died T.faults self result.lanes.items result.settled result.deaths result.least_bad }
     {
         let Shelf {
             ledger,
@@ -139,9 +139,10 @@ impl<T: Load> Shelf<T> {
     }
 }
 
-// Moves the lanes that are home.
+// Moves the lanes that are home behind these.
 fn take_home<T: Load>(homes: Vec<Option<Lane<T>>>, lanes: &mut Vec<Lane<T>>)
     requires room { vec_len lanes.old + vec_len homes ≤ vec_capacity lanes.old }
+    ensures lanes { lanes.new.items ≡ lanes.old.items ++ lanes_home homes.items }
 {
     for home in homes {
         if let Some(lane) = home {
