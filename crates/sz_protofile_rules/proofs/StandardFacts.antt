@@ -61,6 +61,17 @@ unknown_type : file_fault other_words (lines.Message (word 0) ∷ field false 1 
 unfolding first_fault behind found_around names_in package_in
 unknown_type = refl
 
+-- what only a second message of a name declares isn't found, and what stands behind that message is
+second_declares : file_fault other_words (lines.Message (word 0) ∷ field false 1 2 1 ∷ lines.End ∷
+    lines.Message (word 0) ∷ lines.Message (word 1) ∷ lines.End ∷ lines.End ∷ []) ≡ breaks 5 (word 1) (codes "B")
+unfolding first_fault behind found_around names_in package_in
+second_declares = refl
+
+behind_the_second : file_fault other_words (lines.Message (word 0) ∷ field false 1 2 1 ∷ lines.End ∷
+    lines.Message (word 0) ∷ lines.Message (word 2) ∷ lines.End ∷ lines.End ∷ lines.Enum (word 1) ∷ []) ≡ breaks 3 (word 0) (codes "A")
+unfolding first_fault behind found_around names_in package_in
+behind_the_second = refl
+
 -- the package is taken off, behind a dot or by itself, and a part of it isn't
 in_a_package : file_fault other_words (lines.Package (word 3) ∷ lines.Message (word 0) ∷ field false 4 1 1 ∷ field false 5 2 2 ∷ lines.End ∷ []) ≡ None
 unfolding first_fault behind found_around names_in package_in

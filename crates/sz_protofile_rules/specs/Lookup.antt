@@ -1,5 +1,5 @@
 -- Which message or enum a word for a type means.
-use Rattle.std.specs.Prelude.{ℕ, zero, suc, List, [], ◌∷◌, ◌++◌, length, slice_get, unwrap_or, codes, Option, Some, None, ◌==◌, if◌then◌else◌}
+use Rattle.std.specs.Prelude.{ℕ, zero, suc, ◌-◌, List, [], ◌∷◌, ◌++◌, length, slice_get, unwrap_or, codes, Option, Some, None, Bool, false, not, ◌&&◌, ◌==◌, if◌then◌else◌}
 use Rattle.std.specs.Option.{option_or, option_and_then}
 use Rattle.sz_protofile.specs.Reading.{Spelling}
 use Rattle.sz_protofile.specs.declared.line.Line.{Line}
@@ -7,7 +7,8 @@ use Rattle.sz_protofile.specs.declared.line.Line.TheVariants as lines
 use Rattle.sz_protofile_rules.specs.declared.scope.Scope.{Scope}
 use Rattle.sz_protofile_rules.specs.Names.{put_after, has_name, outside, declared_by, message_by, around_after}
 
--- what a file has for its words to mean: its package, if it has one, and the full names of its messages and enums, each once
+-- what a file has for its words to mean: its package, if it has one, and the full names of its messages and enums, each once, without what
+-- only a further message of a name declares
 pub record Known : Type 0 where
   pub package_name : Option (List ℕ)
   pub names : List (List ℕ)
@@ -77,10 +78,28 @@ abbrev pub with_declared : List (List ℕ) → Option Scope → List (List ℕ)
 with_declared names None = names
 with_declared names (Some s) = with_name names s.full
 
--- the names, and those that lines declare, where these messages are open before them
-unfoldable pub names_in : Spelling → List (List ℕ) → List Scope → List Line → List (List ℕ)
-names_in text names around [] = names
-names_in text names around (line ∷ more) = names_in text (with_declared names (declared_by text around line)) (around_after text around line) more
+-- whether what a line declares is the first of its name, where so many of the open messages are none, or stand in one that is none
+abbrev pub is_first : List (List ℕ) → ℕ → Option Scope → Bool
+is_first names again None = false
+is_first names again (Some s) = again == 0 && not (has_name s.full names)
+
+-- how many of the open messages aren't the first of their names, or stand in one that isn't, after a line
+abbrev pub again_after : Bool → ℕ → Line → ℕ
+again_after first again (lines.Message n) = if first then again else suc again
+again_after first again lines.End = again - 1
+again_after first again line = again
+
+-- the names, and that of what a line declares, unless it stands in such a message
+abbrev pub with_first : List (List ℕ) → ℕ → Option Scope → List (List ℕ)
+with_first names again declared = if again == 0 then with_declared names declared else names
+
+-- the names, and those that lines declare, where these messages are open before them, and so many aren't the first of their names, or stand
+-- in one that isn't
+unfoldable pub names_in : Spelling → List (List ℕ) → List Scope → ℕ → List Line → List (List ℕ)
+names_in text names around again [] = names
+names_in text names around again (line ∷ more) =
+    names_in text (with_first names again (declared_by text around line)) (around_after text around line)
+    (again_after (is_first names again (declared_by text around line)) again line) more
 
 -- the names, and those of the messages of which lines are, where these messages are open before them
 unfoldable pub message_names_in : Spelling → List (List ℕ) → List Scope → List Line → List (List ℕ)
@@ -90,4 +109,4 @@ message_names_in text names around (line ∷ more) =
 
 -- what a file has
 abbrev pub known_in : Spelling → List Line → Known
-known_in text all = known (package_in text None all) (names_in text [] [] all)
+known_in text all = known (package_in text None all) (names_in text [] [] 0 all)
