@@ -1,14 +1,15 @@
 -- Steps of the loops over the lines of a file, and over the messages that are open.
-use Rattle.std.proofs.Common.{◌≡◌, ℕ, zero, suc, ◌+◌, ◌-◌, ◌<◌, ◌≤◌, List, drop, length, get_or, slice_get, unwrap_or, Option, Some, None, refl, sym, ap, ◌∙◌, arith}
+use Rattle.std.proofs.Common.{◌≡◌, ℕ, zero, suc, ◌+◌, ◌-◌, ◌<◌, ◌≤◌, Bool, true, false, List, drop, length, get_or, slice_get, unwrap_or, Option, Some, None, refl, sym, ap, ◌∙◌, arith}
 use Rattle.std.specs.Prelude.{codes}
 use Rattle.std.specs.Option.{option_or}
 use Rattle.std.proofs.lemmas.List.{drop_all, at_drop_more}
 use Rattle.sz_protofile.specs.Reading.{Spelling}
 use Rattle.sz_protofile.specs.declared.line.Line.{Line}
+use Rattle.sz_protofile.specs.declared.line.Line.TheVariants as lines
 use Rattle.sz_protofile_rules.specs.declared.fault.Fault.{Fault}
 use Rattle.sz_protofile_rules.specs.declared.scope.Scope.{Scope}
 use Rattle.sz_protofile_rules.specs.Names.{put_after, outside, declared_by, around_after}
-use Rattle.sz_protofile_rules.specs.Lookup.{Known, found, found_around, package_by, package_in, with_declared, names_in}
+use Rattle.sz_protofile_rules.specs.Lookup.{Known, found, found_around, package_by, package_in, is_first, again_after, with_first, names_in}
 use Rattle.sz_protofile_rules.specs.Faults.{Before, fault_of, with_line, first_fault}
 
 module _ (text : Spelling) (all : List Line) (i : ℕ) (d : Line) (lt : i < length all) where
@@ -17,11 +18,12 @@ module _ (text : Spelling) (all : List Line) (i : ℕ) (d : Line) (lt : i < leng
   unfolding package_in
   package_step last = at_drop_more (package_in text last) all i d lt
 
-  pub names_step : (names : List (List ℕ)) (around : List Scope)
-      → names_in text names around (drop i all)
-      ≡ names_in text (with_declared names (declared_by text around (get_or all i d))) (around_after text around (get_or all i d)) (drop (i + 1) all)
+  pub names_step : (names : List (List ℕ)) (around : List Scope) (again : ℕ)
+      → names_in text names around again (drop i all)
+      ≡ names_in text (with_first names again (declared_by text around (get_or all i d))) (around_after text around (get_or all i d))
+      (again_after (is_first names again (declared_by text around (get_or all i d))) again (get_or all i d)) (drop (i + 1) all)
   unfolding names_in
-  names_step names around = at_drop_more (names_in text names around) all i d lt
+  names_step names around again = at_drop_more (names_in text names around again) all i d lt
 
   -- what is wrong with a line is what is wrong with it and those after it
   pub fault_here : (known : Known) (before : Before) (f : Fault) → fault_of text known before (get_or all i d) ≡ Some f
@@ -41,13 +43,24 @@ module _ (text : Spelling) (all : List Line) (i : ℕ) (le : length all ≤ i) w
   unfolding package_in
   package_end last = ap (package_in text last) (drop_all i all le)
 
-  pub names_end : (names : List (List ℕ)) (around : List Scope) → names_in text names around (drop i all) ≡ names
+  pub names_end : (names : List (List ℕ)) (around : List Scope) (again : ℕ) → names_in text names around again (drop i all) ≡ names
   unfolding names_in
-  names_end names around = ap (names_in text names around) (drop_all i all le)
+  names_end names around again = ap (names_in text names around again) (drop_all i all le)
 
   pub fault_end : (known : Known) (before : Before) → first_fault text known before (drop i all) ≡ None
   unfolding first_fault
   fault_end known before = ap (first_fault text known before) (drop_all i all le)
+
+-- the count of messages that aren't the first of their names grows by one at most
+pub again_few : (first : Bool) (again : ℕ) (line : Line) (n : ℕ) → again ≤ n → again_after first again line ≤ n + 1
+again_few true again (lines.Message t) n h = omega (arith, h)
+again_few false again (lines.Message t) n h = omega (arith, h)
+again_few first again lines.End n h = omega (arith, h)
+again_few first again lines.Passed n h = omega (arith, h)
+again_few first again (lines.Package t) n h = omega (arith, h)
+again_few first again (lines.Enum t) n h = omega (arith, h)
+again_few first again (lines.Field f) n h = omega (arith, h)
+again_few first again (lines.Unread m) n h = omega (arith, h)
 
 -- ---- the messages that are open, from the innermost on
 

@@ -1,9 +1,9 @@
 //! What a file has for its words to mean.
-ghost use Rattle.std.specs.Prelude.{◌≡◌, [], None, IfOk, OnOk, option_copied, option_map};
+ghost use Rattle.std.specs.Prelude.{◌≡◌, ◌<◌, ◌^◌, [], None, IfOk, OnOk, option_copied, option_map};
 ghost use Rattle.std.specs.Option.{option_or};
 ghost use Rattle.std.specs.String.{string_bytes};
 ghost use Rattle.sz_protofile_rules.specs.Names.{spelled, declared_by};
-ghost use Rattle.sz_protofile_rules.specs.Lookup.{known_in, names_in, package_by, package_in, with_declared};
+ghost use Rattle.sz_protofile_rules.specs.Lookup.{known_in, names_in, package_by, package_in, is_first, again_after, with_first};
 
 use crate::hashes::Hashes;
 use crate::names::Names;
@@ -15,7 +15,8 @@ use sz_protofile::Line;
 use sz_protofile_rules::Scope;
 use sz_types::NoMemory;
 
-/// What a file has for its words to mean: its package, and the full names of its messages and enums.
+/// What a file has for its words to mean: its package, and the full names of its messages and enums, without what only a further message
+/// of a name declares.
 pub struct Known {
     pub(crate) package_name: Option<String>,
     pub(crate) names: Names,
@@ -81,34 +82,52 @@ fn owned(alloc: Global, text: Option<&str>) -> Result<Option<String>, NoMemory>
     }
 }
 
-// Takes the name that a line declares.
+// Takes the name that a line declares, unless it stands in a message that isn't the first of its name. Says whether it's the first.
 fn declare(
     alloc: Global,
     bytes: &[u8],
     names: &mut Names,
     around: &[Open],
+    again: usize,
     line: &Line,
-) -> Result<(), NoMemory>
-    ensures ok { OnOk result (names.new ≡ with_declared names.old (declared_by (spelled bytes.now) around.now line.now)) }
+) -> Result<bool, NoMemory>
+    ensures ok { OnOk result (names.new ≡ with_first names.old again (declared_by (spelled bytes.now) around.now line.now)) }
+    ensures first { IfOk result (λ first. first ≡ is_first names.old again (declared_by (spelled bytes.now) around.now line.now)) }
 {
+    if again != 0 {
+        return Ok(false);
+    }
     match declared_by(alloc, bytes, around, line)? {
         Some(scope) => {
             let Scope { full, joined: _ } = scope;
-            names.add(full.into_string())?;
+            Ok(names.add(full.into_string())?)
         }
-        None => {}
+        None => Ok(false),
     }
-    Ok(())
 }
 
-// The full names of all messages and enums.
+// How many of the open messages aren't the first of their names, or stand in one that isn't, after a line.
+fn again_after(first: bool, again: usize, line: &Line) -> usize
+    requires { again < 2 ^ 63 }
+    ensures value { result ≡ again_after first again line.now }
+{
+    match line {
+        Line::Message(_) => { if first { again } else { again + 1 } }
+        Line::End => again.saturating_sub(1),
+        Line::Passed | Line::Package(_) | Line::Enum(_) | Line::Field(_) | Line::Unread(_) => again,
+    }
+}
+
+// The full names of all messages and enums, without those that stand in a message that isn't the first of its name.
 fn names_in(alloc: Global, bytes: &[u8], lines: &[Line]) -> Result<Names, NoMemory>
-    ensures value { IfOk result (λ names. names ≡ names_in (spelled bytes.now) [] [] lines.now) }
+    ensures value { IfOk result (λ names. names ≡ names_in (spelled bytes.now) [] [] 0 lines.now) }
 {
     let mut names = Names::new(alloc);
     let mut around = Vec::new(alloc);
+    let mut again = 0;
     for line in lines {
-        declare(alloc, bytes, &mut names, around.as_slice(), line)?;
+        let first = declare(alloc, bytes, &mut names, around.as_slice(), again, line)?;
+        again = again_after(first, again, line);
         step(alloc, bytes, &mut around, line)?;
     }
     Ok(names)
