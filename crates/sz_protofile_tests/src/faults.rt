@@ -53,6 +53,15 @@ message A { A. a = 1; } => 5 A. 1:13
 message A { A..A a = 1; } => 5 A..A 1:13
 message A { X b = 1; } message X { } =>
 message A { message B { C.D d = 1; message C { } } message C { message D { } } } =>
+# What only a further message of a name declares is not found. => 2 1:1
+message A { B b = 1; } message A { message B { } } => 5 B 1:13
+message A { message B { } } message A { B b = 1; } => 3 A 1:37
+message A { B b = 1; } message A { message C { } } message B { } => 3 A 1:32
+message A { B b = 1; message C { } } message A { message C { message D { } } message B { } } => 5 B 1:13
+message A { B b = 1; } message A { message C { } enum B { X = 0; } } => 5 B 1:13
+message A { B.C c = 1; message B { } message B { message C { } } } => 5 B.C 1:13
+enum A { X = 0; } message B { A.C c = 1; } message A { message C { } } => 5 A.C 1:31
+message A { B b = 1; message B { } } message A { message B { message C { } } } => 3 A 1:46
 # Of two words with one hash each means its own. => 2 1:1
 message A { lslrqlgswruj b = 1; message piojjpthejgr { } } => 5 lslrqlgswruj 1:13
 message A { message B { lslrqlgswruj b = 1; message piojjpthejgr { } } message lslrqlgswruj { } } =>

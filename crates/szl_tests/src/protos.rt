@@ -67,6 +67,8 @@ $ [check p --proto q] => 13 ! proto file: syntax at 1:1
 $ [check p --proto q] => 13 ! proto file: unknown type: x.B at 1:25
 % message A { B b = 1; }
 $ [check p --proto q] => 13 ! proto file: unknown type: B at 1:13
+% message A { B b = 1; } message A { message B { } }
+$ [check p --proto q] => 13 ! proto file: unknown type: B at 1:13
 % message A { }¶message A { }
 $ [check p --proto q] => 13 ! proto file: declared twice: A at 2:9
 % message A { int32 type = 1; int32 type_ = 2; }
