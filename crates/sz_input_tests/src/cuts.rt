@@ -43,6 +43,15 @@ const ROWS: &[Row] = &[
     ),
     (FILE, &["f", "x"], Err(Usage), b"", b"bad command line\n"),
     (FILE, &["f"], Err(Usage), b"", b"bad command line\n"),
+    (FILE, &["", "5"], Err(Usage), b"", b"bad command line\n"),
+    (
+        FILE,
+        &["--help", "5"],
+        Err(Usage),
+        b"",
+        b"bad command line\n",
+    ),
+    (FILE, &["-f", "5"], Err(Usage), b"", b"bad command line\n"),
     (
         FILE,
         &["f", "1", "1"],

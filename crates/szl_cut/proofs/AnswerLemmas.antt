@@ -10,7 +10,7 @@ use Rattle.sz_io.specs.Calls.{GainsLine, bytes_taken}
 use Rattle.sz_io.specs.Rose.{Rose}
 use Rattle.szl_cut.specs.declared.failure.Failure.{Failure}
 use Rattle.szl_cut.specs.declared.failure.Failure.TheVariants.{Usage, Damaged, Limit, ReadFailed, WriteFailed, NoMemory}
-use Rattle.szl_cut.specs.Answers.{Asked, size_in, asked_in, IsFor, IsWhy}
+use Rattle.szl_cut.specs.Answers.{Asked, size_after, asked_in, IsFor, IsWhy}
 
 -- the line was written whole, or a front of it where a count of the sink rose
 pub line_told : {E : Type 0} (the_err : sink.Ghosts E) (old new : E) (line : List ℕ) (result : Result (Unit {0}) WriteError)
@@ -43,14 +43,16 @@ why_for held name size asked failure is h = subst (λ (a : Option Asked). IsWhy 
 pub no_write_for : {T : Type 0} (file : Option (List ℕ)) (failure : Failure) → IsFor file failure → (let r : Result T Failure = Err failure in r) ≡ Err WriteFailed → ⊥
 no_write_for file failure h is = subst (IsFor file) (let same : failure ≡ WriteFailed = cc in same) h
 
--- two words, of which the second is a size
-pub asked_is : {S : Type 0} (bytes_of : S → List ℕ) (words : List S) (name word : S) (one other : List ℕ) (size : ℕ) (read : Option ℕ)
-    → 2 ≤ length words → length words < 3 → name ≡ get_or words 0 name → word ≡ get_or words 1 word → one ≡ bytes_of name → other ≡ bytes_of word
-    → read ≡ size_in other → read ≡ Some size → asked_in (map bytes_of words) ≡ Some (record { name = one; size = size })
-asked_is bytes_of [] name word one other size read low high n w a b s i = absurd (omega (arith, low))
-asked_is bytes_of (x ∷ []) name word one other size read low high n w a b s i = absurd (omega (arith, low))
-asked_is bytes_of (x ∷ y ∷ z ∷ words) name word one other size read low high n w a b s i = absurd (omega (arith, high))
-asked_is bytes_of (x ∷ y ∷ []) name word one other size read low high n w a b s i =
-    let told : size_in (bytes_of y) ≡ Some size = ap size_in (ap bytes_of (sym w) ∙ sym b) ∙ sym s ∙ i in
+-- two words, of which the first names a file and the second is a size
+pub asked_is : {S : Type 0} (bytes_of : S → List ℕ) (words : List S) (name word : S) (one front other : List ℕ) (size : ℕ) (read : Option ℕ)
+    → 2 ≤ length words → length words < 3 → name ≡ get_or words 0 name → word ≡ get_or words 1 word → one ≡ bytes_of name → front ≡ bytes_of name
+    → other ≡ bytes_of word → read ≡ size_after front other → read ≡ Some size → asked_in (map bytes_of words) ≡ Some (record { name = one; size = size })
+asked_is bytes_of [] name word one front other size read low high n w a f b s i = absurd (omega (arith, low))
+asked_is bytes_of (x ∷ []) name word one front other size read low high n w a f b s i = absurd (omega (arith, low))
+asked_is bytes_of (x ∷ y ∷ z ∷ words) name word one front other size read low high n w a f b s i = absurd (omega (arith, high))
+asked_is bytes_of (x ∷ y ∷ []) name word one front other size read low high n w a f b s i =
+    let named : bytes_of x ≡ front = ap bytes_of (sym n) ∙ sym f in
+    let sized : bytes_of y ≡ other = ap bytes_of (sym w) ∙ sym b in
+    let told : size_after (bytes_of x) (bytes_of y) ≡ Some size = (λ i. size_after (named i) (sized i)) ∙ sym s ∙ i in
     let asked : ℕ → Asked = λ (k : ℕ). record { name = bytes_of x; size = k } in
     ap (option_map asked) told ∙ ap (λ (l : List ℕ). let a : Asked = record { name = l; size = size } in Some a) (ap bytes_of (sym n) ∙ sym a)

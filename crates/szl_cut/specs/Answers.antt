@@ -2,6 +2,7 @@
 use Rattle.std.specs.Prelude.{◌≡◌, ◌≢◌, ℕ, ◌^◌, ⊤, List, [], ◌∷◌, ◌++◌, codes, decimal, ◌&&◌, nat_le, Option, Some, None, IfSome, option_map, flat_map, if◌then◌else◌}
 use Rattle.std.specs.Str.Parse.{digits_value}
 use Rattle.sz_types.specs.Numerals.{is_numeral}
+use Rattle.sz_io.specs.Words.{is_file_name}
 use Rattle.sz_io.specs.declared.error.OutsideError.{OutsideError}
 use Rattle.sz_io.specs.declared.error.OutsideError.TheVariants as outside
 use Rattle.sz_records.specs.declared.ending.Ending.TheVariants as endings
@@ -19,9 +20,13 @@ pub record Asked : Type 0 where
   pub name : List ℕ
   pub size : ℕ
 
+-- the size that a word asks for, if the one before it names a file
+abbrev pub size_after : List ℕ → List ℕ → Option ℕ
+size_after name word = if is_file_name name then size_in word else None
+
 -- what the words ask for: a name and a size
 abbrev pub asked_in : List (List ℕ) → Option Asked
-asked_in (name ∷ word ∷ []) = option_map (λ size. record { name = name; size = size }) (size_in word)
+asked_in (name ∷ word ∷ []) = option_map (λ size. record { name = name; size = size }) (size_after name word)
 asked_in words = None
 
 -- a number and a newline

@@ -4,7 +4,7 @@ ghost use Rattle.std.specs.Io.KnownBytes.{Appends};
 ghost use Rattle.sz_io.specs.Rose.{Rose};
 ghost use Rattle.sz_io.specs.Opened.{KeepsFiles};
 ghost use Rattle.sz_io.specs.Calls.{GainsLine, ReadToEnd};
-ghost use Rattle.szl_cut.specs.Answers.{asked_in, size_in, IsWhy, line_of};
+ghost use Rattle.szl_cut.specs.Answers.{asked_in, size_in, size_after, IsWhy, line_of};
 ghost use Rattle.szl_cut.specs.Promise.{Writes, Leaves, OpensAsked, ran_out};
 ghost use Rattle.szl_cut.specs.Reading.{AppendsPart};
 
@@ -12,7 +12,7 @@ use crate::cut::cut_places;
 use crate::failure::Failure;
 use crate::lines::{line_of, places_text};
 use std::alloc::Global;
-use sz_io::{Files, Sink, WriteError, write_whole};
+use sz_io::{Files, Sink, WriteError, is_file_name, write_whole};
 use sz_types::digits_up_to;
 
 /// The most bytes of a part that can be asked for.
@@ -67,12 +67,24 @@ fn write_places<F: Files, O: Sink>(
     let [name, word] = words else {
         return Err(Failure::Usage);
     };
-    let Some(size) = size_in(word.as_bytes()) else {
+    let Some(size) = size_after(name.as_bytes(), word.as_bytes()) else {
         return Err(Failure::Usage);
     };
     let places = cut_places(alloc, files, name.as_str(), size)?;
     let text = places_text(alloc, &places)?;
     write_text(out, &text)
+}
+
+/// The size that a word asks for, if the one before it names a file.
+fn size_after(name: &[u8], word: &[u8]) -> Option<u64>
+    ensures value { result ≡ size_after name.now word.now }
+    ensures some { IfSome result (λ size. 1 ≤ size) }
+{
+    if is_file_name(name) {
+        size_in(word)
+    } else {
+        None
+    }
 }
 
 /// The size of parts that a word asks for.
