@@ -1,7 +1,8 @@
 -- What a command line is answered.
-use Rattle.std.specs.Prelude.{◌≡◌, ℕ, ◌<◌, ◌⊎◌, ◌&&◌, ◌==◌, Bool, true, false, List, [], ◌∷◌, ◌++◌, length, take, nat_lt, slice_index_or, codes}
+use Rattle.std.specs.Prelude.{◌≡◌, ℕ, ◌<◌, ◌⊎◌, Bool, true, false, List, [], ◌∷◌, ◌++◌, length, take, codes}
 use Rattle.std.specs.Prelude.{Option, Some, None, IfSome, IfNone, if◌then◌else◌}
 use Rattle.std.specs.Io.KnownBytes.{Appends}
+use Rattle.sz_io.specs.Words.{is_file_name}
 use Rattle.sz_io.specs.Calls.{NamesGain}
 use Rattle.sz_io.specs.declared.files.Files as files
 use Rattle.sz_io.specs.declared.sink.Sink as sink
@@ -10,13 +11,9 @@ use Rattle.szl_explain_judge.specs.Refusing.{IsProgram, IsRefused, refusal_line}
 use Rattle.szl_explain.specs.declared.program.Status.{Status}
 use Rattle.szl_explain.specs.declared.program.Status.TheVariants.{Done, Usage, Program, ReadFailed, WriteFailed, NoMemory}
 
--- whether a word is no name: it begins with `-` and goes on
-abbrev pub is_option : List ℕ → Bool
-is_option word = nat_lt 1 (length word) && (slice_index_or word 0 0 == 45)
-
--- the name that the words ask for: the one word
+-- the name that the words ask for: the one word, if it names a file
 abbrev pub asked_in : List (List ℕ) → Option (List ℕ)
-asked_in (word ∷ []) = if is_option word then None else Some word
+asked_in (word ∷ []) = if is_file_name word then Some word else None
 asked_in words = None
 
 -- the exit statuses
@@ -37,9 +34,9 @@ line_of ReadFailed = codes "read failed\n"
 line_of WriteFailed = codes "write failed\n"
 line_of NoMemory = codes "out of memory\n"
 
--- the line of a refusal, if there is one
+-- the first line: that of the refusal, or that there is none
 abbrev pub first_line : Option Refusal → List ℕ
-first_line None = []
+first_line None = codes "the program passes\n"
 first_line (Some r) = refusal_line r
 
 -- the status of a program that was explained: that it passes, or is refused
@@ -47,8 +44,8 @@ abbrev pub status_of : Option Refusal → Status
 status_of None = Done
 status_of (Some r) = Program
 
--- This is said of a file, and this is its refusal, if it has one: it is a program, or it is refused so, and the line of that stands in front. What
--- stands after that line may be anything, and so may what is said of a program. Where a file doesn't tell its bytes, it is as if it held some
+-- This is said of a file, and this is its refusal, if it has one: it is a program, or it is refused so, and the line that says it stands in
+-- front. What stands after that line may be anything. Where a file doesn't tell its bytes, it is as if it held some
 pub record Explains (told : Option (List ℕ)) (refusal : Option Refusal) (said : List ℕ) : Type 0 where
   pub text : List ℕ
   pub holds : IfSome told (λ bytes. bytes ≡ text)

@@ -1,5 +1,5 @@
 //! What is said of a program: that it passes, or why it is refused.
-ghost use Rattle.std.specs.Prelude.{◌≡◌, ◌≤◌, length, IfOk, IfSome, IfNone, Some as Just};
+ghost use Rattle.std.specs.Prelude.{◌≡◌, ◌≤◌, length, IfOk, IfSome, IfNone, Some as Just, None as Nothing, codes};
 ghost use Rattle.sz_lex.specs.Tokens.{first_place};
 ghost use Rattle.sz_check_rules.specs.declared.cause.Cause.TheVariants.{TooLong};
 ghost use Rattle.szl_explain_judge.specs.Refusing.{refusal_at, refusal_line, IsProgram, IsRefused};
@@ -24,7 +24,7 @@ use szl_explain_syntax::{say_character, say_literal, say_not_utf8, say_syntax};
 pub struct Explanation {
     /// Why it is refused, or nothing where it isn't.
     pub refusal: Option<Refusal>,
-    /// The line of the refusal as `szl check` writes it, with its newline; empty where there is none.
+    /// The line of the refusal as `szl check` writes it, with its newline; where there is none, the line that says so.
     pub line: Vec<u8>,
     /// The lines that say more, each with its newline.
     pub more: Vec<u8>,
@@ -38,12 +38,22 @@ pub fn explain(alloc: Global, text: &[u8]) -> Result<Explanation, AllocError>
 {
     match refusal_in(alloc, text)? {
         Some(refusal) => refused(alloc, text, refusal),
-        None => Ok(Explanation {
-            refusal: None,
-            line: Vec::new(alloc),
-            more: passing_lines(alloc, text)?,
-        }),
+        None => passed(alloc, text),
     }
+}
+
+/// The explanation of a program that passes.
+fn passed(alloc: Global, text: &[u8]) -> Result<Explanation, AllocError>
+    ensures kept { IfOk result (λ e. e.refusal ≡ Nothing) }
+    ensures line { IfOk result (λ e. e.line.items ≡ codes "the program passes\n") }
+{
+    let more = passing_lines(alloc, text)?;
+    let line = Vec::from_slice(alloc, b"the program passes\n")?;
+    Ok(Explanation {
+        refusal: None,
+        line,
+        more,
+    })
 }
 
 /// The explanation of a refusal of the text.
@@ -181,10 +191,9 @@ fn say_names(
     }
 }
 
-/// What is said of a program that passes: that a run with `--ignore-undefs` refuses it, if one does.
+/// What more is said of a program that passes: that a run with `--ignore-undefs` refuses it, if one does.
 fn passing_lines(alloc: Global, text: &[u8]) -> Result<Vec<u8>, AllocError> {
     let mut page = Page::new(alloc);
-    page.say("the program passes\n");
     if text.len() <= MOST_PROGRAM_BYTES {
         let Ok(tokens) = lex(alloc, text) else {
             return Err(AllocError);

@@ -4,12 +4,12 @@ ghost use Rattle.std.specs.Io.KnownBytes.{Appends};
 ghost use Rattle.sz_io.specs.Rose.{Rose};
 ghost use Rattle.sz_io.specs.Opened.{KeepsFiles};
 ghost use Rattle.sz_io.specs.Calls.{GainsLine, NamesGain, ReadToEnd};
-ghost use Rattle.szl_explain.specs.Answers.{asked_in, is_option, code_of, line_of, status_of, ran_out, Answers, IsAnswer, OpensAsked};
+ghost use Rattle.szl_explain.specs.Answers.{asked_in, code_of, line_of, status_of, ran_out, Answers, IsAnswer, OpensAsked};
 ghost use Rattle.szl_explain.specs.Writing.{AppendsPart, Prints};
 
 use crate::explanation::{Explanation, explain, explain_too_long};
 use std::alloc::{AllocError, Global};
-use sz_io::{Files, ReadError, Sink, WriteError, read_whole, write_whole};
+use sz_io::{Files, ReadError, Sink, WriteError, is_file_name, read_whole, write_whole};
 use szl_explain_judge::{MOST_PROGRAM_BYTES, Refusal};
 
 /// How a call ends, by the statuses that `szl` has for the same.
@@ -104,17 +104,10 @@ fn explain_words<F: Files, O: Sink>(
     let [name] = words else {
         return Status::Usage;
     };
-    if is_option(name.as_bytes()) {
+    if !is_file_name(name.as_bytes()) {
         return Status::Usage;
     }
     explain_named(alloc, name.as_str(), files, out)
-}
-
-/// Whether a word is no name: it begins with `-` and goes on.
-fn is_option(word: &[u8]) -> bool
-    ensures value { result ≡ is_option word.now }
-{
-    word.len() > 1 && word[0] == b'-'
 }
 
 /// Writes what is said of the program under a name.

@@ -124,6 +124,7 @@ const PAGES: &[Page] = &[
         "",
     ),
     (b"", "--help", 1, b"", "bad command line\n"),
+    (b"", "", 1, b"", "bad command line\n"),
 ];
 
 fn pages() -> &'static [Page] {
