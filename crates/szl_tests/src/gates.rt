@@ -188,6 +188,62 @@ fn the_shards_of_all_rounds_are_counted_on(rt: HostRuntime) -> Result<(), Fail> 
     Ok(())
 }
 
+/// A gate that keeps the greatest number of a shard under ticket 0, which is the first shard of the last round.
+#[derive(Drop)]
+struct Firsts {
+    shard: AtomicU64,
+}
+
+impl Gate for Firsts {
+    fn at(&self, ticket: u32, shard: u64, _number: u32) {
+        if ticket == 0 {
+            self.shard.fetch_max(shard, SeqCst);
+        }
+    }
+}
+
+/// Words, a number of lines, and the first shard of the last round. A round has at most 4,096 shards and 2^20 records.
+const ROUNDS: &[(&str, usize, u64)] = &[
+    ("run p f --shard 1 --workers 2", 4_096, 0),
+    ("run p f --shard 1 --workers 2", 4_097, 4_096),
+    ("run p f --shard 65536 --workers 2", 1_048_576, 0),
+    ("run p f --shard 65536 --workers 2", 1_048_577, 16),
+];
+
+fn rounds() -> &'static [(&'static str, usize, u64)] {
+    ROUNDS
+}
+
+/// The first shard of the last round of a run over an input.
+fn last_round<'t, R: Threads + Wait + Sync>(
+    rt: &R,
+    alloc: Global,
+    words: &'t str,
+    input: &'t str,
+) -> Result<u64, Fail> {
+    let given = Setting {
+        words,
+        input,
+        ..PLAIN
+    };
+    let gate = Firsts {
+        shard: AtomicU64::new(0),
+    };
+    left_by(rt, alloc, &given, b"c: table sum of int;", &gate)?;
+    Ok(gate.shard.load(SeqCst))
+}
+
+#[test]
+fn a_round_ends_at_its_bounds_of_shards_and_records(rt: HostRuntime) -> Result<(), Fail> {
+    for round in rounds() {
+        let (words, count, first) = *round;
+        let lines = lines_of(rt.alloc(), count)?;
+        let found = last_round(&rt, rt.alloc(), words, lines.as_str())?;
+        assert_eq!(&rt; found, first, "{words}");
+    }
+    Ok(())
+}
+
 /// A gate at which ticket 0 is held until ticket 1 has come.
 #[derive(Drop)]
 struct Holds {
