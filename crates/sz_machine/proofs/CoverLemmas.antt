@@ -7,6 +7,7 @@ use Rattle.sz_instr.specs.declared.instr.Instr.TheVariants.{Convert, Decode, Mak
 use Rattle.sz_instr.specs.declared.instr.Instr.TheVariants.{AndTest, OrTest, Call, Return, EndRecord, Discard, Emit, Enter, Next, Leave, Meets, Fails}
 use Rattle.sz_instr.specs.declared.step.Step.{Step}
 use Rattle.sz_world_rules.specs.Slots.{Slot}
+use Rattle.sz_types.specs.declared.operator.Builtin.{Builtin}
 use Rattle.sz_types.specs.declared.operator.BinOp.{BinOp}
 use Rattle.sz_machine.specs.Acting.{IsInside, IsApart}
 use Rattle.sz_machine_rules.specs.Covering.{HasList}
@@ -93,6 +94,11 @@ pub record IsUncommon (i : Instr) : Type 0 where
   pub no_ortest : (n : ℕ) → i ≡ OrTest n → ⊥
   pub no_emit : (t n : ℕ) (weighted : Bool) → i ≡ Emit t n weighted → ⊥
   pub no_endrecord : i ≡ EndRecord → ⊥
+  pub no_apply : (which : Builtin) → i ≡ Apply which → ⊥
+  pub no_convert : (n : ℕ) → i ≡ Convert n → ⊥
+  pub no_slice : i ≡ Slice → ⊥
+  pub no_index : i ≡ Index → ⊥
+  pub no_field : (n : ℕ) → i ≡ Field n → ⊥
 
 -- and then it stands apart
 pub is_apart : (i : Instr) → IsInside i → IsUncommon i → IsApart i
@@ -116,15 +122,15 @@ is_apart (Fails x) h k = tt
 is_apart (Static x) h k = absurd h
 is_apart Input h k = absurd h
 is_apart (KeepStatic x) h k = absurd h
-is_apart (Apply x) h k = tt
-is_apart (Convert x) h k = tt
+is_apart (Apply x) h k = absurd (k.no_apply x refl)
+is_apart (Convert x) h k = absurd (k.no_convert x refl)
 is_apart (Decode x) h k = tt
 is_apart (MakeArray x) h k = tt
 is_apart (MakeTuple x) h k = tt
 is_apart (MakeMap x) h k = tt
-is_apart Index h k = tt
-is_apart Slice h k = tt
-is_apart (Field x) h k = tt
+is_apart Index h k = absurd (k.no_index refl)
+is_apart Slice h k = absurd (k.no_slice refl)
+is_apart (Field x) h k = absurd (k.no_field x refl)
 is_apart (Call x) h k = tt
 is_apart Return h k = tt
 is_apart (Emit x y z) h k = absurd (k.no_emit x y z refl)

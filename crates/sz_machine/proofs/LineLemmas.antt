@@ -1,5 +1,5 @@
 -- A run that ends does so after some number of lines, and each line leaves one less.
-use Rattle.std.proofs.Common.{arith, ◌≡◌, ◌∙◌, ℕ, zero, suc, ◌+◌, ◌<◌, List, [], ◌∷◌, length, slice_get, Bool, true, false, Option, Some, None, refl, sym, ap, subst, true≢false}
+use Rattle.std.proofs.Common.{arith, ◌≡◌, ◌∙◌, ℕ, zero, suc, ◌+◌, ◌<◌, List, [], ◌∷◌, length, slice_get, Bool, true, Option, Some, None, refl, sym, ap, subst, true≢false}
 use Rattle.sz_instr.specs.declared.code.Code.{Code}
 use Rattle.sz_instr.specs.declared.line.Line.{Line}
 use Rattle.sz_instr.specs.declared.routine.Routine.{Routine}

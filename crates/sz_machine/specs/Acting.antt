@@ -3,11 +3,11 @@ use Rattle.std.specs.Prelude.{◌≡◌, ℕ, suc, List, ◌∷◌, Option, Some
 use Rattle.sz_types.specs.declared.place.Place.{Place}
 use Rattle.sz_instr.specs.declared.instr.Instr.{Instr}
 use Rattle.sz_instr.specs.declared.instr.Instr.TheVariants.{Static, Input, KeepStatic, Next as NextCandidate}
-use Rattle.sz_instr.specs.declared.instr.Instr.TheVariants.{Unary, Apply, Convert, Decode, MakeArray, MakeTuple, MakeMap, Index, Slice, Field}
+use Rattle.sz_instr.specs.declared.instr.Instr.TheVariants.{Unary, Decode, MakeArray, MakeTuple, MakeMap}
 use Rattle.sz_instr.specs.declared.instr.Instr.TheVariants.{Def, Call, Return, Discard, Enter, Leave, Meets, Fails}
 use Rattle.sz_instr.specs.declared.code.Code.{Code}
 use Rattle.sz_value.specs.Data.{Datum}
-use Rattle.sz_world_rules.specs.World.{World, spend, budget_passed}
+use Rattle.sz_world_rules.specs.World.{World, spend, budget_passed, undefined_used}
 use Rattle.sz_world_rules.specs.Slots.{Slot}
 use Rattle.sz_machine_rules.specs.States.{State, After, Goes, Halts, faults}
 use Rattle.sz_machine_rules.specs.Rows.{act, pass_over}
@@ -88,6 +88,26 @@ pub record Paid (ticks : ℕ) (old : RunState) (paid : Bool) (new : RunState) : 
   pub spent : spend ticks (world_of old) ≡ paid_world paid (world_of new)
   pub kept : new ≡ record old { left = new.left }
 
+-- a run goes on after a line whose ticks were left
+abbrev pub if_paid : Bool → Next
+if_paid true = On
+if_paid false = Fault budget_passed
+
+-- a run goes so where the use of an undefined value was passed over
+abbrev pub if_passed : Bool → Next → Next
+if_passed true next = next
+if_passed false next = Fault undefined_used
+
+-- the row was done, and the run goes on after the line; or else nothing was done
+abbrev pub DoesIf : Bool → (Place → State → After) → RunState → RunState → Type 0
+DoesIf true row old new = Does row old On new
+DoesIf false row old new = new ≡ old
+
+-- a run goes on after a line that was done
+abbrev pub on_if : Bool → Option Next
+on_if true = Some On
+on_if false = None
+
 -- the ticks that a line takes before its result weighs anything: no charge where no candidate is left
 abbrev pub base_charge : ℕ → Instr → List (List Datum) → ℕ
 base_charge charge (NextCandidate n to) lists = candidate_charge lists charge
@@ -108,15 +128,10 @@ IsInside _ = Unit {0}
 -- the instruction is none of those that the loop over the lines has in line
 abbrev pub IsApart : Instr → Type 0
 IsApart (Unary op) = Unit {0}
-IsApart (Apply which) = Unit {0}
-IsApart (Convert ty) = Unit {0}
 IsApart (Decode ty) = Unit {0}
 IsApart (MakeArray count) = Unit {0}
 IsApart (MakeTuple count) = Unit {0}
 IsApart (MakeMap count) = Unit {0}
-IsApart Index = Unit {0}
-IsApart Slice = Unit {0}
-IsApart (Field n) = Unit {0}
 IsApart Def = Unit {0}
 IsApart (Call function) = Unit {0}
 IsApart Return = Unit {0}

@@ -8,7 +8,7 @@ ghost use Rattle.sz_machine_rules.specs.Covering.{Covers};
 ghost use Rattle.sz_machine.specs.Acting.{DoesFromTo, DoesWhere, state_of, weighs_and_acts, base_charge, TakesCandidate};
 ghost use Rattle.sz_machine.specs.Acting.{IsInside, IsApart, IsCovered, in_record, in_static};
 
-use crate::run_state::{Next, RunState, again};
+use crate::run_state::{Next, RunState, again, if_paid};
 use std::alloc::Global;
 use sz_instr::{Code, Instr};
 use sz_machine_cells::Cell;
@@ -45,8 +45,7 @@ impl<'a> RunState<'a> {
         ensures value { (code : Code) (place : Place) → IfOk result (λ next.
             DoesWhere place (λ a. a.input ≡ input.now) (act code instr.Input) self.old next self.new) }
     {
-        let cell = input.copy()?;
-        self.operands.push(cell)?;
+        self.operands.push_copy(input)?;
         Ok(Next::On)
     }
 
@@ -107,16 +106,27 @@ impl<'a> RunState<'a> {
             Instr::Keep(n) => self.keep(alloc, *n),
             Instr::Clear(n) => Ok(self.clear(*n)),
             Instr::Store(n, path) => self.store(alloc, code, place, *n, path),
-            Instr::Binary(op) => self.binary(alloc, *op),
+            Instr::Binary(op) => Ok(if_paid(self.binary(alloc, *op)?)),
             Instr::Tick => Ok(Next::On),
             Instr::Jump(to) => Ok(Next::To(*to)),
-            Instr::Test(to, past) => self.test(alloc, code, place, *to, *past),
+            Instr::Test(to, past) => again(self.test(alloc, code, place, *to, *past)),
             Instr::AndTest(to) => Ok(self.and_test(*to)),
             Instr::OrTest(to) => Ok(self.or_test(*to)),
             Instr::Emit(table, indexes, weighted) => {
                 self.emit(alloc, code, place, *table, *indexes, *weighted)
             }
             Instr::EndRecord => Ok(Next::End),
+            Instr::Apply(which) => Ok(if_paid(self.apply(alloc, *which)?)),
+            Instr::Convert(ty) => Ok(if_paid(self.convert(alloc, code, *ty)?)),
+            Instr::Slice => Ok(if_paid(self.slice(alloc)?)),
+            Instr::Index => {
+                self.index(alloc)?;
+                Ok(Next::On)
+            }
+            Instr::Field(n) => {
+                self.field(alloc, *n)?;
+                Ok(Next::On)
+            }
             _ => self.act_apart(alloc, code, at, place, instr),
         }
     }
@@ -156,15 +166,10 @@ impl<'a> RunState<'a> {
     {
         match instr {
             Instr::Unary(op) => self.unary(alloc, *op),
-            Instr::Apply(which) => self.apply(alloc, *which),
-            Instr::Convert(ty) => self.convert(alloc, code, *ty),
             Instr::Decode(ty) => self.decode(alloc, code, *ty),
             Instr::MakeArray(count) => self.make_array(alloc, *count),
             Instr::MakeTuple(count) => self.make_tuple(alloc, *count),
             Instr::MakeMap(count) => self.make_map(alloc, *count),
-            Instr::Index => self.index(alloc),
-            Instr::Slice => self.slice(alloc),
-            Instr::Field(n) => self.field(alloc, *n),
             Instr::Def => self.def(),
             Instr::Call(function) => self.call(code.functions.get(*function as usize), at),
             Instr::Return => Ok(self.give_back()),

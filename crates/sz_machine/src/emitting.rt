@@ -9,12 +9,12 @@ ghost use Rattle.sz_world_rules.specs.Ticks.{result_weight};
 ghost use Rattle.sz_world_rules.specs.Emits.{weight_number, weight_if_all, emit_by_weight, line_emit};
 ghost use Rattle.sz_machine_rules.specs.States.{popped};
 ghost use Rattle.sz_machine_rules.specs.Rows.{emit_operands};
-ghost use Rattle.sz_machine.specs.Acting.{Paid, Does, DoesAt, weighs_and_acts};
+ghost use Rattle.sz_machine.specs.Acting.{Paid, Does, DoesAt, weighs_and_acts, if_paid};
+ghost use Rattle.sz_machine.specs.declared.run_state.Next.TheVariants.{On};
 ghost use Rattle.sz_machine.specs.Emitting.{parts_weight, emits_made, emits_parts, emits_on_top};
 
-use crate::run_state::{BUDGET_PASSED, Next, RunState, again};
+use crate::run_state::{BUDGET_PASSED, Next, RunState, if_paid};
 use std::alloc::Global;
-use std::mem;
 use sz_instr::Code;
 use sz_machine_cells::{Cell, result_weight};
 use sz_tabs::{Emit, Emits};
@@ -38,14 +38,14 @@ impl<'a> RunState<'a> {
         ensures value { IfOk result (λ next. DoesAt place (weighs_and_acts code.now (instr.Emit table indexes weighted)) self.old next self.new) }
     {
         if weighted {
-            return self.emit_apart(alloc, code, place, table, indexes, weighted);
+            return Ok(if_paid(self.emit_any(alloc, code, place, table, indexes, weighted)?));
         }
         if indexes != 0 {
-            return self.emit_apart(alloc, code, place, table, indexes, weighted);
+            return Ok(if_paid(self.emit_any(alloc, code, place, table, indexes, weighted)?));
         }
         match self.operands.top().int() {
             Some(number) => self.emit_top(alloc, table, number),
-            None => self.emit_apart(alloc, code, place, table, indexes, weighted),
+            None => Ok(if_paid(self.emit_any(alloc, code, place, table, indexes, weighted)?)),
         }
     }
 
@@ -55,28 +55,11 @@ impl<'a> RunState<'a> {
         requires top { self.old.operands ≡ Some (int number) ∷ drop 1 self.old.operands }
         ensures value { (code : Code) → IfOk result (λ next. Does (weighs_and_acts code (instr.Emit table 0 false)) self.old next self.new) }
     {
-        self.operands.drop_top(1);
+        self.operands.drop_one();
         self.emit_number(alloc, table, number)
     }
 
-    // The same of any parts, with the answer made anew.
-    #[inline(always)]
-    fn emit_apart(
-        &mut self,
-        alloc: Global,
-        code: &Code,
-        place: Place,
-        table: u32,
-        indexes: u32,
-        weighted: bool,
-    ) -> Result<Next, NoMemory>
-        requires within { emit_operands indexes weighted ≤ length self.old.operands }
-        ensures value { IfOk result (λ next. DoesAt place (weighs_and_acts code.now (instr.Emit table indexes weighted)) self.old next self.new) }
-    {
-        again(self.emit_any(alloc, code, place, table, indexes, weighted))
-    }
-
-    // The same of any parts.
+    // The same of any parts. Whether the ticks for them were left.
     #[inline(never)]
     fn emit_any(
         &mut self,
@@ -86,9 +69,9 @@ impl<'a> RunState<'a> {
         table: u32,
         indexes: u32,
         weighted: bool,
-    ) -> Result<Next, NoMemory>
+    ) -> Result<bool, NoMemory>
         requires within { emit_operands indexes weighted ≤ length self.old.operands }
-        ensures value { IfOk result (λ next. DoesAt place (weighs_and_acts code.now (instr.Emit table indexes weighted)) self.old next self.new) }
+        ensures value { IfOk result (λ paid. DoesAt place (weighs_and_acts code.now (instr.Emit table indexes weighted)) self.old (if_paid paid) self.new) }
     {
         if weighted {
             let weight = self.operands.pop();
@@ -98,8 +81,7 @@ impl<'a> RunState<'a> {
         }
     }
 
-    // Emits a whole number, which weighs one tick. The vector of the list is taken out for the push, which then stands in line: the
-    // emit is written where it stays, and not copied there.
+    // Emits a whole number, which weighs one tick.
     #[inline(always)]
     fn emit_number(&mut self, alloc: Global, table: u32, number: i64) -> Result<Next, NoMemory>
         ensures value { (counting : Option ℕ) → IfOk result (λ next.
@@ -108,14 +90,12 @@ impl<'a> RunState<'a> {
         if !self.pay(1) {
             return Ok(Next::Fault(BUDGET_PASSED));
         }
-        let mut emits = mem::replace(&mut self.emits, Emits::new(alloc)).into_vec();
-        emits.push(Emit {
+        self.emits.push(Emit {
             table,
             indexes: List::new(alloc),
             value: Value::Int(number),
             weight: None,
         })?;
-        self.emits = Emits::from_vec(emits);
         Ok(Next::On)
     }
 
@@ -129,17 +109,18 @@ impl<'a> RunState<'a> {
         table: u32,
         indexes: u32,
         weight: Option<Cell<'a>>,
-    ) -> Result<Next, NoMemory>
+    ) -> Result<bool, NoMemory>
         requires within { indexes + 1 ≤ length self.old.operands }
-        ensures value { IfOk result (λ next. DoesAt place (emits_on_top code.now.ignore table indexes weight.entry) self.old next self.new) }
+        ensures value { IfOk result (λ paid. DoesAt place (emits_on_top code.now.ignore table indexes weight.entry) self.old (if_paid paid) self.new) }
     {
         let value = self.operands.pop();
         if !self.pay_parts(indexes as usize, &value, &weight) {
-            return Ok(Next::Fault(BUDGET_PASSED));
+            return Ok(false);
         }
         let indexes = self.operands.pop_values(alloc, indexes as usize)?;
         let made = emit_of(alloc, table, indexes, value, weight)?;
-        self.emit_made(alloc, code, place, made)
+        self.emit_made(alloc, code, place, made)?;
+        Ok(true)
     }
 
     // Takes what so many topmost operands, the value and the weight weigh, if they are all there. They are weighed where they are, so that
@@ -197,15 +178,15 @@ impl<'a> RunState<'a> {
         code: &Code,
         place: Place,
         made: Option<Emit>,
-    ) -> Result<Next, NoMemory>
-        ensures value { IfOk result (λ next. DoesAt place (emits_made code.now.ignore made) self.old next self.new) }
+    ) -> Result<(), NoMemory>
+        ensures value { OnOk result (DoesAt place (emits_made code.now.ignore made) self.old On self.new) }
     {
         match (made, code.ignore) {
             (Some(emit), _) => self.emits.push(emit)?,
             (None, Some(table)) => self.count_line(alloc, table, place)?,
             (None, None) => {}
         }
-        Ok(Next::On)
+        Ok(())
     }
 
     /// Counts the line at the place of the text: the table that counts lines has one emit more.

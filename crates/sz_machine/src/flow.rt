@@ -1,12 +1,13 @@
 //! What instructions do to the place of the next line: tests, calls and candidates.
-ghost use Rattle.std.specs.Prelude.{◌≡◌, ◌<◌, ◌≤◌, suc, length, Some, IfOk};
+ghost use Rattle.std.specs.Prelude.{◌≡◌, ◌<◌, ◌≤◌, ℕ, suc, length, Some, IfOk};
 ghost use Rattle.sz_instr.specs.declared.code.Code.{Code};
 ghost use Rattle.sz_types.specs.declared.place.Place.{Place};
 ghost use Rattle.sz_instr.specs.declared.instr.Instr.TheVariants as instr;
 ghost use Rattle.sz_machine_rules.specs.Rows.{act, call_routine};
-ghost use Rattle.sz_machine.specs.Acting.{Does, DoesAt, DoesWhere, PassesTo};
+ghost use Rattle.sz_machine.specs.Acting.{Does, DoesAt, DoesWhere, PassesTo, if_passed};
+ghost use Rattle.sz_machine.specs.declared.run_state.Next.TheVariants.{On, To};
 
-use crate::run_state::{CALLS_TOO_DEEP, Next, RunState, UNDEFINED_USED, again};
+use crate::run_state::{CALLS_TOO_DEEP, Next, RunState, if_passed};
 use std::alloc::Global;
 use sz_instr::{Code, Routine};
 use sz_machine_cells::{Candidates, Cell};
@@ -19,7 +20,7 @@ const MOST_OPEN_CALLS: usize = 128;
 impl<'a> RunState<'a> {
     /// Pops a slot and goes to the first place where it is false. An undefined one is a fault, or leads to the second place, its line
     /// being counted.
-    #[inline(always)]
+    #[inline(never)]
     pub fn test(
         &mut self,
         alloc: Global,
@@ -35,42 +36,23 @@ impl<'a> RunState<'a> {
         match x.truth() {
             Some(true) => Ok(Next::On),
             _ if x.is_defined() => Ok(Next::To(to)),
-            _ => again(self.pass_to(alloc, code, place, past)),
+            _ => Ok(if_passed(self.pass(alloc, code, place)?, Next::To(past))),
         }
     }
 
-    /// An undefined value was used: a fault, but where the code counts lines, the one at this place of the text is counted, and the run
-    /// goes to a place of the code.
+    /// An undefined value was used. Where the code counts lines, the one at this place of the text is counted, and the answer is true: the
+    /// run passes over it.
     #[inline(never)]
-    pub fn pass_to(
-        &mut self,
-        alloc: Global,
-        code: &Code,
-        place: Place,
-        to: usize,
-    ) -> Result<Next, NoMemory>
-        ensures value { IfOk result (λ next. PassesTo code.now.ignore place (λ a. to) self.old next self.new) }
+    pub fn pass(&mut self, alloc: Global, code: &Code, place: Place) -> Result<bool, NoMemory>
+        ensures to { (to : ℕ) → IfOk result (λ passed. PassesTo code.now.ignore place (λ a. to) self.old (if_passed passed (To to)) self.new) }
+        ensures on { IfOk result (λ passed. PassesTo code.now.ignore place (λ a. suc a.at) self.old (if_passed passed On) self.new) }
     {
         match code.ignore {
             Some(table) => {
                 self.count_line(alloc, table, place)?;
-                Ok(Next::To(to))
+                Ok(true)
             }
-            None => Ok(Next::Fault(UNDEFINED_USED)),
-        }
-    }
-
-    /// The same, where the run goes on after the line.
-    #[inline(never)]
-    pub fn pass_on(&mut self, alloc: Global, code: &Code, place: Place) -> Result<Next, NoMemory>
-        ensures value { IfOk result (λ next. PassesTo code.now.ignore place (λ a. suc a.at) self.old next self.new) }
-    {
-        match code.ignore {
-            Some(table) => {
-                self.count_line(alloc, table, place)?;
-                Ok(Next::On)
-            }
-            None => Ok(Next::Fault(UNDEFINED_USED)),
+            None => Ok(false),
         }
     }
 
@@ -140,7 +122,7 @@ impl<'a> RunState<'a> {
         if x.is_defined() {
             Ok(Next::On)
         } else {
-            self.pass_on(alloc, code, place)
+            Ok(if_passed(self.pass(alloc, code, place)?, Next::On))
         }
     }
 

@@ -1,5 +1,5 @@
 //! What instructions do to operands: constants, variables, operators, conversions, composites and parts.
-ghost use Rattle.std.specs.Prelude.{◌≡◌, ◌<◌, ◌≤◌, ◌*◌, ◌∷◌, length, drop, IfOk, Some};
+ghost use Rattle.std.specs.Prelude.{◌≡◌, ◌<◌, ◌≤◌, ◌*◌, ◌∷◌, drop, length, Some, IfOk, OnOk};
 ghost use Rattle.sz_instr.specs.declared.code.Code.{Code};
 ghost use Rattle.sz_instr.specs.declared.instr.Instr.TheVariants as instr;
 ghost use Rattle.sz_value.specs.Data.{int};
@@ -8,15 +8,16 @@ ghost use Rattle.sz_types.specs.Rows.{arity};
 ghost use Rattle.sz_world_rules.specs.Operations.{array_of, tuple_of};
 ghost use Rattle.sz_world_rules.specs.Ticks.{result_weight};
 ghost use Rattle.sz_machine_rules.specs.States.{popped};
-ghost use Rattle.sz_machine.specs.Acting.{Paid, Does, weighs_and_acts};
+ghost use Rattle.sz_machine.specs.Acting.{Paid, Does, weighs_and_acts, if_paid};
+ghost use Rattle.sz_machine.specs.declared.run_state.Next.TheVariants.{On};
 
-use crate::run_state::{BUDGET_PASSED, Next, RunState, again};
+use crate::run_state::{BUDGET_PASSED, Next, RunState, if_paid};
 use std::alloc::Global;
 use sz_instr::Code;
 use sz_machine_cells::{
     Cell, applied_to_one, applied_to_two, array_of, binary_of, binary_weight, builtin_weight,
-    conversion_weight, converted, decoded, definedness, element_of, of_ints, part_of,
-    result_weight, slice_of, tuple_of, unary_of,
+    conversion_weight, converted, decoded, definedness, element_of, part_of, result_weight,
+    slice_between, slice_of, tuple_of, unary_of,
 };
 use sz_types::{BinOp, Builtin, UnOp};
 use sz_value::NoMemory;
@@ -28,8 +29,8 @@ impl<'a> RunState<'a> {
         requires within { constant < length code.now.constants }
         ensures value { IfOk result (λ next. Does (act code.now (instr.Push constant)) self.old next self.new) }
     {
-        let cell = Cell::lent(code.constants.get(constant as usize));
-        self.operands.push(cell)?;
+        self.operands
+            .push_lent(code.constants.get(constant as usize))?;
         Ok(Next::On)
     }
 
@@ -39,8 +40,7 @@ impl<'a> RunState<'a> {
         requires within { n < length self.old.calls.locals }
         ensures value { (code : Code) → IfOk result (λ next. Does (act code (instr.Local n)) self.old next self.new) }
     {
-        let cell = self.calls.local(n).copy()?;
-        self.operands.push(cell)?;
+        self.operands.push_copy(self.calls.local(n))?;
         Ok(Next::On)
     }
 
@@ -51,9 +51,20 @@ impl<'a> RunState<'a> {
         requires some { 0 < length self.old.operands }
         ensures value { (code : Code) → IfOk result (λ next. Does (act code (instr.Keep n)) self.old next self.new) }
     {
+        self.keep_cell(alloc, n)?;
+        Ok(Next::On)
+    }
+
+    // The same, out of line.
+    #[inline(never)]
+    fn keep_cell(&mut self, alloc: Global, n: u32) -> Result<(), NoMemory>
+        requires within { n < length self.old.calls.locals }
+        requires some { 0 < length self.old.operands }
+        ensures value { (code : Code) → OnOk result (Does (act code (instr.Keep n)) self.old On self.new) }
+    {
         let cell = self.operands.pop().kept(alloc)?;
         self.calls.keep(n, cell);
-        Ok(Next::On)
+        Ok(())
     }
 
     /// Makes the local undefined.
@@ -78,47 +89,11 @@ impl<'a> RunState<'a> {
         Ok(Next::On)
     }
 
-    /// Pops two operands and pushes what the operator makes of them. Whole numbers under a common operator are done in place.
-    #[inline(always)]
-    pub fn binary(&mut self, alloc: Global, op: BinOp) -> Result<Next, NoMemory>
-        requires some { 1 < length self.old.operands }
-        ensures value { (code : Code) → IfOk result (λ next. Does (weighs_and_acts code (instr.Binary op)) self.old next self.new) }
-    {
-        match self.operands.top_ints() {
-            Some((a, b)) => self.binary_of_ints(alloc, op, a, b),
-            None => self.binary_apart(alloc, op),
-        }
-    }
-
-    // The same, with these two whole numbers on top.
-    #[inline(always)]
-    fn binary_of_ints(&mut self, alloc: Global, op: BinOp, a: i64, b: i64) -> Result<Next, NoMemory>
-        requires ints { self.old.operands ≡ Some (int b) ∷ Some (int a) ∷ drop 2 self.old.operands }
-        ensures value { (code : Code) → IfOk result (λ next. Does (weighs_and_acts code (instr.Binary op)) self.old next self.new) }
-    {
-        match of_ints(op, a, b) {
-            Some(made) => {
-                self.operands.put_for_two(made);
-                Ok(Next::On)
-            }
-            None => self.binary_apart(alloc, op),
-        }
-    }
-
-    // The same of any operands, with the answer made anew.
-    #[inline(always)]
-    fn binary_apart(&mut self, alloc: Global, op: BinOp) -> Result<Next, NoMemory>
-        requires some { 1 < length self.old.operands }
-        ensures value { (code : Code) → IfOk result (λ next. Does (weighs_and_acts code (instr.Binary op)) self.old next self.new) }
-    {
-        again(self.binary_of_any(alloc, op))
-    }
-
-    // The same of any operands.
+    /// Pops two operands and pushes what the operator makes of them. Whether the ticks for that were left.
     #[inline(never)]
-    fn binary_of_any(&mut self, alloc: Global, op: BinOp) -> Result<Next, NoMemory>
+    pub fn binary(&mut self, alloc: Global, op: BinOp) -> Result<bool, NoMemory>
         requires some { 1 < length self.old.operands }
-        ensures value { (code : Code) → IfOk result (λ next. Does (weighs_and_acts code (instr.Binary op)) self.old next self.new) }
+        ensures value { (code : Code) → IfOk result (λ paid. Does (weighs_and_acts code (instr.Binary op)) self.old (if_paid paid) self.new) }
     {
         let y = self.operands.pop();
         let x = self.operands.pop();
@@ -129,9 +104,9 @@ impl<'a> RunState<'a> {
 
     /// Pops the arguments and pushes what the function makes of them. They are looked at where they are.
     #[inline(never)]
-    pub fn apply(&mut self, alloc: Global, which: Builtin) -> Result<Next, NoMemory>
+    pub fn apply(&mut self, alloc: Global, which: Builtin) -> Result<bool, NoMemory>
         requires within { arity which ≤ length self.old.operands }
-        ensures value { (code : Code) → IfOk result (λ next. Does (weighs_and_acts code (instr.Apply which)) self.old next self.new) }
+        ensures value { (code : Code) → IfOk result (λ paid. Does (weighs_and_acts code (instr.Apply which)) self.old (if_paid paid) self.new) }
     {
         match which {
             Builtin::Len | Builtin::Keys => self.apply_to_one(alloc, which),
@@ -140,10 +115,10 @@ impl<'a> RunState<'a> {
     }
 
     // The same of a function of one argument.
-    fn apply_to_one(&mut self, alloc: Global, which: Builtin) -> Result<Next, NoMemory>
+    fn apply_to_one(&mut self, alloc: Global, which: Builtin) -> Result<bool, NoMemory>
         requires one { arity which ≡ 1 }
         requires some { 0 < length self.old.operands }
-        ensures value { (code : Code) → IfOk result (λ next. Does (weighs_and_acts code (instr.Apply which)) self.old next self.new) }
+        ensures value { (code : Code) → IfOk result (λ paid. Does (weighs_and_acts code (instr.Apply which)) self.old (if_paid paid) self.new) }
     {
         let x = self.operands.pop();
         let made = applied_to_one(alloc, which, &x)?;
@@ -152,10 +127,10 @@ impl<'a> RunState<'a> {
     }
 
     // The same of a function of two arguments.
-    fn apply_to_two(&mut self, alloc: Global, which: Builtin) -> Result<Next, NoMemory>
+    fn apply_to_two(&mut self, alloc: Global, which: Builtin) -> Result<bool, NoMemory>
         requires two { arity which ≡ 2 }
         requires some { 1 < length self.old.operands }
-        ensures value { (code : Code) → IfOk result (λ next. Does (weighs_and_acts code (instr.Apply which)) self.old next self.new) }
+        ensures value { (code : Code) → IfOk result (λ paid. Does (weighs_and_acts code (instr.Apply which)) self.old (if_paid paid) self.new) }
     {
         let y = self.operands.pop();
         let x = self.operands.pop();
@@ -166,10 +141,10 @@ impl<'a> RunState<'a> {
 
     /// Pops an operand and pushes it converted to the type.
     #[inline(never)]
-    pub fn convert(&mut self, alloc: Global, code: &Code, ty: u32) -> Result<Next, NoMemory>
+    pub fn convert(&mut self, alloc: Global, code: &Code, ty: u32) -> Result<bool, NoMemory>
         requires within { ty < length code.now.types }
         requires some { 0 < length self.old.operands }
-        ensures value { IfOk result (λ next. Does (weighs_and_acts code.now (instr.Convert ty)) self.old next self.new) }
+        ensures value { IfOk result (λ paid. Does (weighs_and_acts code.now (instr.Convert ty)) self.old (if_paid paid) self.new) }
     {
         let to = code.types.get(ty as usize);
         let x = self.operands.pop();
@@ -189,7 +164,7 @@ impl<'a> RunState<'a> {
         let x = self.operands.pop();
         let made = decoded(alloc, by, &x)?;
         let weight = result_weight(&made);
-        self.finish(made, weight)
+        Ok(if_paid(self.finish(made, weight)?))
     }
 
     // Takes what an array or a tuple of so many topmost operands weighs, if it is left. They are weighed where they are, so that nothing
@@ -250,7 +225,7 @@ impl<'a> RunState<'a> {
             Some(made) => {
                 let weight = result_weight(&made);
                 self.operands.drop_top(parts);
-                self.finish(made, weight)
+                Ok(if_paid(self.finish(made, weight)?))
             }
             None => Ok(Next::Fault(BUDGET_PASSED)),
         }
@@ -258,22 +233,49 @@ impl<'a> RunState<'a> {
 
     /// Pops an index or a key and what it leads into, and pushes the element.
     #[inline(never)]
-    pub fn index(&mut self, alloc: Global) -> Result<Next, NoMemory>
+    pub fn index(&mut self, alloc: Global) -> Result<(), NoMemory>
         requires some { 1 < length self.old.operands }
-        ensures value { (code : Code) → IfOk result (λ next. Does (act code instr.Index) self.old next self.new) }
+        ensures value { (code : Code) → OnOk result (Does (act code instr.Index) self.old On self.new) }
     {
         let i = self.operands.pop();
         let x = self.operands.pop();
         let made = element_of(alloc, &x, &i)?;
         self.operands.push(made)?;
-        Ok(Next::On)
+        Ok(())
     }
 
-    /// Pops the bounds of a part and what it is a part of, and pushes the part.
+    /// Pops the bounds of a part and what it is a part of, and pushes the part. Whether the ticks for that were left.
     #[inline(never)]
-    pub fn slice(&mut self, alloc: Global) -> Result<Next, NoMemory>
+    pub fn slice(&mut self, alloc: Global) -> Result<bool, NoMemory>
         requires some { 2 < length self.old.operands }
-        ensures value { (code : Code) → IfOk result (λ next. Does (weighs_and_acts code instr.Slice) self.old next self.new) }
+        ensures value { (code : Code) → IfOk result (λ paid. Does (weighs_and_acts code instr.Slice) self.old (if_paid paid) self.new) }
+    {
+        match self.operands.top_ints() {
+            Some((from, to)) => self.slice_between(alloc, from, to),
+            None => self.slice_of_any(alloc),
+        }
+    }
+
+    // The same, where the bounds are these whole numbers.
+    #[inline(always)]
+    fn slice_between(&mut self, alloc: Global, from: i64, to: i64) -> Result<bool, NoMemory>
+        requires some { 2 < length self.old.operands }
+        requires ints { self.old.operands ≡ Some (int to) ∷ Some (int from) ∷ drop 2 self.old.operands }
+        ensures value { (code : Code) → IfOk result (λ paid. Does (weighs_and_acts code instr.Slice) self.old (if_paid paid) self.new) }
+    {
+        self.operands.drop_one();
+        self.operands.drop_one();
+        let x = self.operands.pop();
+        let made = slice_between(alloc, &x, from, to)?;
+        let weight = result_weight(&made);
+        self.finish(made, weight)
+    }
+
+    // The same of any operands.
+    #[inline(never)]
+    fn slice_of_any(&mut self, alloc: Global) -> Result<bool, NoMemory>
+        requires some { 2 < length self.old.operands }
+        ensures value { (code : Code) → IfOk result (λ paid. Does (weighs_and_acts code instr.Slice) self.old (if_paid paid) self.new) }
     {
         let j = self.operands.pop();
         let i = self.operands.pop();
@@ -285,14 +287,14 @@ impl<'a> RunState<'a> {
 
     /// Pops a tuple or a message and pushes a part of it.
     #[inline(never)]
-    pub fn field(&mut self, alloc: Global, n: u32) -> Result<Next, NoMemory>
+    pub fn field(&mut self, alloc: Global, n: u32) -> Result<(), NoMemory>
         requires some { 0 < length self.old.operands }
-        ensures value { (code : Code) → IfOk result (λ next. Does (act code (instr.Field n)) self.old next self.new) }
+        ensures value { (code : Code) → OnOk result (Does (act code (instr.Field n)) self.old On self.new) }
     {
         let x = self.operands.pop();
         let made = part_of(alloc, n, &x)?;
         self.operands.push(made)?;
-        Ok(Next::On)
+        Ok(())
     }
 
     /// Pops a slot and pushes whether it was defined.

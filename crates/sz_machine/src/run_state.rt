@@ -1,6 +1,6 @@
 //! A run in place: what lines change.
 ghost use Rattle.std.specs.Prelude.{◌≡◌, ◌<◌, ◌∷◌, drop, IfOk};
-ghost use Rattle.sz_machine.specs.Acting.{Paid, Does, results};
+ghost use Rattle.sz_machine.specs.Acting.{Paid, Does, results, if_paid, if_passed};
 
 use sz_machine_cells::{Calls, Cell, Operands};
 use sz_tabs::Emits;
@@ -56,16 +56,40 @@ impl<'a> RunState<'a> {
         true
     }
 
-    /// Takes the weight of a result, and leaves the result on the operands.
+    /// Takes the weight of a result, and leaves the result on the operands, if so many ticks are left.
     #[inline(always)]
-    pub fn finish(&mut self, made: Cell<'a>, weight: u64) -> Result<Next, NoMemory>
-        ensures value { IfOk result (λ next. Does (results weight made.entry) self.old next self.new) }
+    pub fn finish(&mut self, made: Cell<'a>, weight: u64) -> Result<bool, NoMemory>
+        ensures value { IfOk result (λ paid. Does (results weight made.entry) self.old (if_paid paid) self.new) }
     {
         if !self.pay(weight) {
-            return Ok(Next::Fault(BUDGET_PASSED));
+            return Ok(false);
         }
         self.operands.push(made)?;
-        Ok(Next::On)
+        Ok(true)
+    }
+}
+
+/// Where a run goes after a line whose ticks were left, or weren't. What stands out of line tells just that, which takes no place in memory.
+#[inline(always)]
+pub fn if_paid(paid: bool) -> Next
+    ensures value { result ≡ if_paid paid }
+{
+    if paid {
+        Next::On
+    } else {
+        Next::Fault(BUDGET_PASSED)
+    }
+}
+
+/// Where a run goes where an undefined value was used: so, if that was passed over.
+#[inline(always)]
+pub fn if_passed(passed: bool, next: Next) -> Next
+    ensures value { result ≡ if_passed passed next }
+{
+    if passed {
+        next
+    } else {
+        Next::Fault(UNDEFINED_USED)
     }
 }
 

@@ -2,10 +2,11 @@
 ghost use Rattle.std.specs.Prelude.{ℕ, ◌+◌, ◌<◌, ◌≤◌, [], length, IfOk, Option};
 ghost use Rattle.sz_value.specs.Seen.{seen};
 ghost use Rattle.sz_machine_rules.specs.Rows.{indexes_in, store};
-ghost use Rattle.sz_machine.specs.Acting.{Does, DoesAt};
+ghost use Rattle.sz_machine.specs.Acting.{Does, DoesAt, if_passed};
+ghost use Rattle.sz_machine.specs.declared.run_state.Next.TheVariants.{On};
 ghost use Rattle.sz_machine.specs.Storing.{stores_values};
 
-use crate::run_state::{Next, RunState, STORE_OUTSIDE, again};
+use crate::run_state::{Next, RunState, STORE_OUTSIDE, again, if_passed};
 use std::alloc::Global;
 use sz_instr::{Code, Step, Steps};
 use sz_machine_cells::{indexes_in, stored_in};
@@ -47,13 +48,29 @@ impl<'a> RunState<'a> {
         requires some { 0 < length self.old.operands }
         ensures value { IfOk result (λ next. DoesAt place (λ place s. store code.now.ignore [] 0 place n s) self.old next self.new) }
     {
+        Ok(if_passed(self.store_cell(alloc, code, place, n)?, Next::On))
+    }
+
+    // The same, out of line. An undefined value is a fault, and the answer false, but where lines are counted.
+    #[inline(never)]
+    fn store_cell(
+        &mut self,
+        alloc: Global,
+        code: &Code,
+        place: Place,
+        n: u32,
+    ) -> Result<bool, NoMemory>
+        requires within { n < length self.old.calls.locals }
+        requires some { 0 < length self.old.operands }
+        ensures value { IfOk result (λ passed. DoesAt place (λ place s. store code.now.ignore [] 0 place n s) self.old (if_passed passed On) self.new) }
+    {
         let new = self.operands.pop();
         if !new.is_defined() {
-            return again(self.pass_on(alloc, code, place));
+            return self.pass(alloc, code, place);
         }
         let cell = new.kept(alloc)?;
         self.calls.keep(n, cell);
-        Ok(Next::On)
+        Ok(true)
     }
 
     // Pops a value and the indexes of the steps, and puts the value where they lead in the local, with the answer made anew.
@@ -92,10 +109,10 @@ impl<'a> RunState<'a> {
         let new = self.operands.pop();
         let indexes = self.operands.pop_values(alloc, indexes_in(path))?;
         let Some(indexes) = indexes else {
-            return self.pass_on(alloc, code, place);
+            return Ok(if_passed(self.pass(alloc, code, place)?, Next::On));
         };
         let Some(new) = new.into_value(alloc)? else {
-            return self.pass_on(alloc, code, place);
+            return Ok(if_passed(self.pass(alloc, code, place)?, Next::On));
         };
         self.store_at(alloc, n, path, &indexes, new)
     }

@@ -3,7 +3,7 @@ use Rattle.std.proofs.Common.{◌≡◌, ◌∙◌, ℕ, zero, suc, ◌+◌, ◌
 use Rattle.std.proofs.Common.{arith}
 use Rattle.std.specs.List.{list_all}
 use Rattle.std.specs.Option.{option_map}
-use Rattle.std.proofs.lemmas.List.{reverse-append, reverse-reverse, length-reverse, length-drop, length-take-le, take-append-drop, map-append}
+use Rattle.std.proofs.lemmas.List.{reverse-append, reverse-reverse, length-reverse, length-drop, take-append-drop, map-append}
 use Rattle.std.proofs.Math.Seq.{drop-append_seam, take-append_seam}
 use Rattle.sz_value.specs.Data.{Datum}
 use Rattle.sz_value.specs.Seen.{seen}
@@ -102,27 +102,11 @@ set_last (x ∷ z ∷ xs) (suc k) y e = ap (λ l. x ∷ l) (set_last (z ∷ xs) 
 pub key_next : (vs : List Value) (v : Value) → reverse (map seen (vs ++ v ∷ [])) ≡ seen v ∷ reverse (map seen vs)
 key_next vs v = ap reverse (map-append seen vs (v ∷ [])) ∙ reverse-append (map seen vs) (seen v ∷ [])
 
--- two items fewer, one by one
-one_by_one : {X : Type 0} → (xs : List X) → drop 1 (drop 1 xs) ≡ drop 2 xs
-one_by_one [] = refl
-one_by_one (x ∷ []) = refl
-one_by_one (x ∷ y ∷ xs) = refl
-
 -- another topmost item
-top_set : {X : Type 0} → (xs : List X) (y : X) → 0 < length xs → reverse (set xs (length xs - 1) y) ≡ y ∷ drop 1 (reverse xs)
+pub top_set : {X : Type 0} → (xs : List X) (y : X) → 0 < length xs → reverse (set xs (length xs - 1) y) ≡ y ∷ drop 1 (reverse xs)
 top_set xs y h =
     let k = length xs - 1 in
     ap reverse (set_last xs k y (omega (arith, h))) ∙ reverse-append (take k xs) (y ∷ []) ∙ ap (λ l. y ∷ l) (below_last xs 1 h)
-
--- one item in the stead of the two topmost ones
-pub two_replaced : {X : Type 0} → (xs : List X) (y : X) → 1 < length xs
-    → reverse (set (take (length xs - 1) xs) (length xs - 2) y) ≡ y ∷ drop 2 (reverse xs)
-two_replaced xs y h =
-    let k = length xs - 1 in
-    let count : length (take k xs) ≡ k = length-take-le k xs (omega (arith, h)) in
-    let place : length xs - 2 ≡ length (take k xs) - 1 = omega (arith, count, h) in
-    ap (λ n. reverse (set (take k xs) n y)) place ∙ top_set (take k xs) y (omega (arith, count, h))
-    ∙ ap (λ l. y ∷ drop 1 l) (below_last xs 1 (omega (arith, h))) ∙ ap (λ l. y ∷ l) (one_by_one (reverse xs))
 
 -- the values of a list that is turned round
 defined_back : (xs : List Slot) → defined_of (reverse xs) ≡ reverse (defined_of xs)

@@ -1,5 +1,5 @@
 -- Pairs of a map, sorted by their keys: what they weigh, and which of them are in it.
-use Rattle.std.proofs.Common.{◌≡◌, ◌∙◌, ℕ, zero, suc, ◌+◌, ◌-◌, ◌^◌, ◌<◌, ◌≤◌, nat_le, List, [], ◌∷◌, ◌++◌, length, take, drop, is_some, map, filter, get_or, cond, Bool, true, false, not, ◌&&◌, Some, None, refl, sym, ap, subst, arith}
+use Rattle.std.proofs.Common.{◌≡◌, ◌∙◌, ℕ, suc, ◌+◌, ◌-◌, ◌^◌, ◌<◌, ◌≤◌, nat_le, List, [], ◌∷◌, ◌++◌, length, take, drop, is_some, map, filter, get_or, cond, Bool, true, false, not, ◌&&◌, Some, None, refl, sym, ap, subst, arith}
 use Rattle.std.proofs.lemmas.Bool.{le-leb, lt-leb}
 use Rattle.std.proofs.lemmas.List.{take_more, drop_more, map-append, append_assoc}
 use Rattle.std.specs.Option.{option_map}

@@ -1,11 +1,11 @@
 //! Cells whose bytes lie in a buffer.
-ghost use Rattle.std.specs.Prelude.{◌≡◌, IfOk, OnOk, Some, take, drop};
+ghost use Rattle.std.specs.Prelude.{◌≡◌, IfOk, IfSome, OnOk, Some, take, drop};
 ghost use Rattle.sz_value.specs.Data.{bytes};
 
 use crate::cell::{Cell, Form};
 use std::alloc::Global;
 use std::rc::Rc;
-use sz_value::NoMemory;
+use sz_value::{NoMemory, Value};
 
 // How many bytes a part can have, and how many can lie before it.
 const MOST_IN_PART: usize = 65_535;
@@ -21,6 +21,22 @@ impl<'a> Cell<'a> {
         Ok(Cell {
             form: Form::Buffer(Rc::new(alloc, buffer)?),
         })
+    }
+
+    /// The bytes, if they lie in a buffer or in a value that stays with its owner. Other cells may be bytes too.
+    #[inline(always)]
+    pub(crate) fn octets(&self) -> Option<&[u8]>
+        ensures value { IfSome result (λ octets. self.now ≡ Some (bytes octets.now)) }
+    {
+        match &self.form {
+            Form::Buffer(buffer) => Some(buffer.as_ref().as_slice()),
+            Form::Part(count, before, buffer) => Some(part_bytes(*count, *before, buffer)),
+            Form::Lent(value) => match value {
+                Value::Bytes(octets) => Some(octets.as_slice()),
+                _ => None,
+            },
+            _ => None,
+        }
     }
 
     /// A cell of so many bytes of the buffer, after so many others. They lie where they are, unless they are more than a part has.

@@ -1,6 +1,7 @@
 //! The routine that runs, and those that wait.
 ghost use Rattle.std.specs.Prelude.{◌≡◌, ◌<◌, ◌≤◌, [], ◌∷◌, length, drop, slice_get, slice_set, Some, None, IfOk, OnErr, OnOk};
 ghost use Rattle.std.specs.Prelude.{◌++◌, ◌-◌, not};
+ghost use Rattle.sz_value.specs.Data.{int};
 ghost use Rattle.sz_world_rules.specs.Slots.{undefined_slots};
 ghost use Rattle.sz_machine_rules.specs.States.{popped};
 ghost use Rattle.sz_machine_cells.specs.Calls.{is_used_up, after_next, caller};
@@ -101,8 +102,29 @@ impl<'a> Calls<'a> {
     }
 
     /// Puts the cell into a local of the routine that runs.
-    #[inline(always)]
+    #[inline(never)]
     pub fn keep(&mut self, n: u32, cell: Cell<'a>)
+        requires within { n < length self.old.locals }
+        ensures value { self.new ≡ record self.old { locals = slice_set self.old.locals n cell.entry } }
+    {
+        self.put(n, cell);
+    }
+
+    /// Puts the whole number into a local of the routine that runs.
+    #[inline(always)]
+    pub fn keep_int(&mut self, n: u32, number: i64)
+        requires within { n < length self.old.locals }
+        ensures value { self.new ≡ record self.old { locals = slice_set self.old.locals n (Some (int number)) } }
+    {
+        match self.local(n).int() {
+            Some(_) => self.put(n, Cell::of_int(number)),
+            None => self.keep(n, Cell::of_int(number)),
+        }
+    }
+
+    // Puts the cell into a local.
+    #[inline(always)]
+    fn put(&mut self, n: u32, cell: Cell<'a>)
         requires within { n < length self.old.locals }
         ensures value { self.new ≡ record self.old { locals = slice_set self.old.locals n cell.entry } }
     {

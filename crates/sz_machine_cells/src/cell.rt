@@ -256,6 +256,17 @@ impl<'a> Cell<'a> {
         }
     }
 
+    /// The truth value, if it is one that lies in the cell.
+    #[inline(always)]
+    pub fn bool(&self) -> Option<bool>
+        ensures value { IfSome result (λ value. self.now ≡ Some (truth value)) }
+    {
+        match &self.form {
+            Form::Bool(value) => Some(*value),
+            _ => None,
+        }
+    }
+
     /// The value to look at where it stands, if there is one.
     #[inline(always)]
     pub fn view(&self) -> Option<View<'_>>

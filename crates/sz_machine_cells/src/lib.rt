@@ -22,7 +22,7 @@ pub use numbers::of_ints;
 pub use operands::Operands;
 pub use results::{
     applied_to_one, applied_to_two, array_of, binary_of, converted, decoded, definedness,
-    element_of, part_of, slice_of, tuple_of, unary_of,
+    element_of, part_of, slice_between, slice_of, tuple_of, unary_of,
 };
 pub use storing::{indexes_in, stored_in};
 pub use sz_value::NoMemory;

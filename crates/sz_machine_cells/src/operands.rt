@@ -1,5 +1,5 @@
 //! The operands of a run.
-ghost use Rattle.std.specs.Prelude.{◌≡◌, ◌≤◌, ◌<◌, ◌+◌, IfNone, [], ◌∷◌, length, map, take, drop, ◌++◌, is_some, IfOk, IfSome, OnOk, OnErr, Some};
+ghost use Rattle.std.specs.Prelude.{◌≡◌, ◌≤◌, ◌<◌, ◌+◌, IfNone, [], ◌∷◌, length, map, take, drop, ◌++◌, is_some, true, false, IfOk, IfSome, OnOk, OnErr, Some};
 ghost use Rattle.std.specs.List.{list_all};
 ghost use Rattle.sz_value.specs.Data.{int};
 ghost use Rattle.sz_value.specs.Seen.{seen};
@@ -10,7 +10,7 @@ ghost use Rattle.sz_world_rules.specs.Operations.{map_of};
 ghost use Rattle.sz_world_rules.specs.Ticks.{result_weight};
 ghost use Rattle.sz_machine_cells.specs.Results.{defined_of, slots_weight, composite_weight};
 
-use crate::cell::Cell;
+use crate::cell::{Cell, Form};
 use crate::maps::map_within;
 use crate::weights::result_weight;
 use std::alloc::Global;
@@ -98,6 +98,32 @@ impl<'a> Operands<'a> {
         &self.cells[self.cells.len() - 1]
     }
 
+    /// Puts the whole number on top, if there is memory.
+    #[inline(always)]
+    pub fn push_int(&mut self, number: i64) -> bool
+        ensures pushed { result ≡ true → self.new ≡ Some (int number) ∷ self.old }
+        ensures left { result ≡ false → self.new ≡ self.old }
+    {
+        self.push(Cell::of_int(number)).is_ok()
+    }
+
+    /// Puts a copy of the cell on top, which shares what owns memory.
+    #[inline(never)]
+    pub fn push_copy(&mut self, cell: &Cell<'a>) -> Result<(), NoMemory>
+        ensures ok { OnOk result (self.new ≡ cell.now ∷ self.old) }
+    {
+        let copy = cell.copy()?;
+        self.push(copy)
+    }
+
+    /// Puts the value on top, which stays where it is.
+    #[inline(never)]
+    pub fn push_lent(&mut self, value: &'a Value) -> Result<(), NoMemory>
+        ensures ok { OnOk result (self.new ≡ Some (seen value.now) ∷ self.old) }
+    {
+        self.push(Cell::lent(value))
+    }
+
     /// The two topmost operands, the upper one last, if both are whole numbers that lie in their cells.
     #[inline(always)]
     pub fn top_ints(&self) -> Option<(i64, i64)>
@@ -111,15 +137,26 @@ impl<'a> Operands<'a> {
         }
     }
 
-    /// Puts the cell in the stead of the two topmost operands.
+    /// Puts the cell in the stead of the topmost operand.
     #[inline(always)]
-    pub fn put_for_two(&mut self, cell: Cell<'a>)
-        requires some { 1 < length self.old }
-        ensures value { self.new ≡ cell.entry ∷ drop 2 self.old }
+    pub fn put_on_top(&mut self, cell: Cell<'a>)
+        requires some { 0 < length self.old }
+        ensures value { self.new ≡ cell.entry ∷ drop 1 self.old }
     {
-        let place = self.cells.len() - 2;
-        let _upper = self.cells.pop();
-        self.cells[place] = cell;
+        let last = self.cells.len() - 1;
+        self.cells[last] = cell;
+    }
+
+    /// Takes the topmost operand off and forgets it. One that takes no memory is forgotten in line.
+    #[inline(always)]
+    pub fn drop_one(&mut self)
+        requires some { 0 < length self.old }
+        ensures value { self.new ≡ drop 1 self.old }
+    {
+        match self.pop().form {
+            Form::Undefined | Form::Bool(_) | Form::Int(_) | Form::Time(_) => {}
+            form => forget(Cell { form }),
+        }
     }
 
     /// Takes so many topmost operands off.
@@ -228,6 +265,10 @@ impl<'a> Operands<'a> {
         Ok(values)
     }
 }
+
+// Forgets the cell, with what it owns.
+#[inline(never)]
+fn forget(_cell: Cell<'_>) {}
 
 /// Whether the cells are all defined.
 pub(crate) fn all_defined(cells: &[Cell<'_>]) -> bool

@@ -1,7 +1,7 @@
 //! What operators, functions, conversions and composites make of operands.
 ghost use Rattle.std.specs.Prelude.{◌≡◌, ◌∷◌, [], ℕ, IfOk, Some, take, drop};
 ghost use Rattle.sz_types.specs.Seen.{seen as seen_type};
-ghost use Rattle.sz_value.specs.Data.{bytes};
+ghost use Rattle.sz_value.specs.Data.{bytes, int};
 ghost use Rattle.sz_builtin.specs.Conversions.{convert};
 ghost use Rattle.sz_builtin.specs.Places.{slice, index};
 ghost use Rattle.sz_builtin.specs.Views.{seen_view};
@@ -47,10 +47,13 @@ pub fn binary_of<'a>(
     }
 }
 
-/// What the function makes of its one argument, which is looked at where it is.
+/// What the function makes of its one argument, which is looked at where it is. Bytes come first, as they are looked at most often.
 pub fn applied_to_one<'a>(alloc: Global, which: Builtin, x: &Cell<'_>) -> Result<Cell<'a>, NoMemory>
     ensures value { IfOk result (λ made. made ≡ applied which (x.now ∷ [])) }
 {
+    if let Some(octets) = x.octets() {
+        return Cell::of_slot(alloc, builtin_of_one(alloc, which, &View::Bytes(octets))?);
+    }
     match x.view() {
         Some(a) => Cell::of_slot(alloc, builtin_of_one(alloc, which, &a)?),
         None => Ok(Cell::undefined()),
@@ -66,6 +69,10 @@ pub fn applied_to_two<'a>(
 ) -> Result<Cell<'a>, NoMemory>
     ensures value { IfOk result (λ made. made ≡ applied which (x.now ∷ y.now ∷ [])) }
 {
+    if let (Some(a), Some(b)) = (x.octets(), y.octets()) {
+        let (a, b) = (View::Bytes(a), View::Bytes(b));
+        return Cell::of_slot(alloc, builtin_of_two(alloc, which, &a, &b)?);
+    }
     match (x.view(), y.view()) {
         (Some(a), Some(b)) => Cell::of_slot(alloc, builtin_of_two(alloc, which, &a, &b)?),
         _ => Ok(Cell::undefined()),
@@ -76,6 +83,9 @@ pub fn applied_to_two<'a>(
 pub fn converted<'a>(alloc: Global, to: &Ty, x: &Cell<'_>) -> Result<Cell<'a>, NoMemory>
     ensures value { IfOk result (λ made. made ≡ converted_plainly (seen_type to.now) x.now) }
 {
+    if let Some(octets) = x.octets() {
+        return became(alloc, to, &View::Bytes(octets));
+    }
     match x.view() {
         Some(a) => became(alloc, to, &a),
         None => Ok(Cell::undefined()),
@@ -175,9 +185,6 @@ pub fn slice_of<'a>(
 ) -> Result<Cell<'a>, NoMemory>
     ensures value { IfOk result (λ made. made ≡ slice_of x.now i.now j.now) }
 {
-    let Some(base) = x.view() else {
-        return Ok(Cell::undefined());
-    };
     let Some(from) = i.view() else {
         return Ok(Cell::undefined());
     };
@@ -185,28 +192,29 @@ pub fn slice_of<'a>(
         return Ok(Cell::undefined());
     };
     match (from.kind(), to.kind()) {
-        (Kind::Int(from), Kind::Int(to)) => part_between(alloc, x, &base, from, to),
+        (Kind::Int(from), Kind::Int(to)) => slice_between(alloc, x, from, to),
         _ => Ok(Cell::undefined()),
     }
 }
 
-// The part between two places of a value that is seen in this cell.
-fn part_between<'a>(
+/// The same between two places that are whole numbers.
+pub fn slice_between<'a>(
     alloc: Global,
     x: &Cell<'_>,
-    base: &View<'_>,
     from: i64,
     to: i64,
 ) -> Result<Cell<'a>, NoMemory>
-    requires same { x.now ≡ Some (seen_view base.now) }
-    ensures value { IfOk result (λ made. made ≡ slice (seen_view base.now) from to) }
+    ensures value { IfOk result (λ made. made ≡ slice_of x.now (Some (int from)) (Some (int to))) }
 {
     match &x.form {
         Form::Buffer(buffer) => part_of_buffer(alloc, buffer, from, to),
         Form::Part(count, before, buffer) => {
             part_of_part(alloc, *count, *before, buffer, from, to)
         }
-        _ => part_anew(alloc, base, from, to),
+        _ => match x.view() {
+            Some(base) => part_anew(alloc, &base, from, to),
+            None => Ok(Cell::undefined()),
+        },
     }
 }
 

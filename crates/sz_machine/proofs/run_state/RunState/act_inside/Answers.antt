@@ -22,6 +22,11 @@ act_apart-requires c = record {
     no_ortest = c.in_default.not-OrTest;
     no_emit = c.in_default.not-Emit;
     no_endrecord = c.in_default.not-EndRecord;
+    no_apply = c.in_default.not-Apply;
+    no_convert = c.in_default.not-Convert;
+    no_slice = c.in_default.not-Slice;
+    no_index = c.in_default.not-Index;
+    no_field = c.in_default.not-Field;
   });
   covers = c.requires.covers;
 }
@@ -41,15 +46,15 @@ returns-in-Clear c =
     let is : c.args.instr.now ≡ instr.Clear c.in-Clear.n = search rules in
     record { value = λ a at. rw is (c.clear.ensures.value c.args.code.now c.args.place a) }
 
-pub returns-in-Binary : goal.returns-in-Binary
-returns-in-Binary c =
+pub returns-in_ok-binary-in-Binary : goal.returns-in_ok-binary-in-Binary
+returns-in_ok-binary-in-Binary c =
     let is : c.args.instr.now ≡ instr.Binary c.in-Binary.op = search rules in
-    record { value = IfOk-weaker c.binary.result _ _ (λ next does a at. rw is (does c.args.place a)) (c.binary.ensures.value c.args.code.now) }
+    record { value = λ a at. rw is (rw c.if_paid.ensures.value (c.in_ok-binary-in-Binary.ensures.value c.args.code.now c.args.place a)) }
 
 pub returns-in-Test : goal.returns-in-Test
 returns-in-Test c =
     let is : c.args.instr.now ≡ instr.Test c.in-Test.to c.in-Test.past = search rules in
-    record { value = IfOk-weaker c.test.result _ _ (λ next does a at. rw is (does a)) c.test.ensures.value }
+    record { value = rw c.again.ensures.value (IfOk-weaker c.test.result _ _ (λ next does a at. rw is (does a)) c.test.ensures.value) }
 
 pub returns-in-AndTest : goal.returns-in-AndTest
 returns-in-AndTest c =
@@ -65,3 +70,18 @@ pub returns-in-Emit : goal.returns-in-Emit
 returns-in-Emit c =
     let is : c.args.instr.now ≡ instr.Emit c.in-Emit.table c.in-Emit.indexes c.in-Emit.weighted = search rules in
     record { value = IfOk-weaker c.emit.result _ _ (λ next does a at. rw is (does a)) c.emit.ensures.value }
+
+pub returns-in_ok-apply-in-Apply : goal.returns-in_ok-apply-in-Apply
+returns-in_ok-apply-in-Apply c =
+    let is : c.args.instr.now ≡ instr.Apply c.in-Apply.which = search rules in
+    record { value = λ a at. rw is (rw c.if_paid-in-Apply.ensures.value (c.in_ok-apply-in-Apply.ensures.value c.args.code.now c.args.place a)) }
+
+pub returns-in_ok-index-in-Index : goal.returns-in_ok-index-in-Index
+returns-in_ok-index-in-Index c =
+    let is : c.args.instr.now ≡ instr.Index = search rules in
+    record { value = λ a at. rw is (c.in_ok-index-in-Index.ensures.value c.args.code.now c.args.place a) }
+
+pub returns-in_ok-field-in-Field : goal.returns-in_ok-field-in-Field
+returns-in_ok-field-in-Field c =
+    let is : c.args.instr.now ≡ instr.Field c.in-Field.n = search rules in
+    record { value = λ a at. rw is (c.in_ok-field-in-Field.ensures.value c.args.code.now c.args.place a) }

@@ -4,11 +4,6 @@ use Rattle.std.proofs.lemmas.Result.{IfOk-weaker}
 use Rattle.sz_instr.specs.declared.instr.Instr.TheVariants as instr
 use Rattle.sz_machine.proofs.run_state.RunState.act_seldom.Goals as goal
 
-pub returns-in-Apply : goal.returns-in-Apply
-returns-in-Apply c =
-    let is : c.args.instr.now ≡ instr.Apply c.in-Apply.which = search rules in
-    record { value = IfOk-weaker c.apply.result _ _ (λ next does a at. rw is (does c.args.place a)) (c.apply.ensures.value c.args.code.now) }
-
 pub returns-in-MakeArray : goal.returns-in-MakeArray
 returns-in-MakeArray c =
     let is : c.args.instr.now ≡ instr.MakeArray c.in-MakeArray.count = search rules in
@@ -23,21 +18,6 @@ pub returns-in-MakeMap : goal.returns-in-MakeMap
 returns-in-MakeMap c =
     let is : c.args.instr.now ≡ instr.MakeMap c.in-MakeMap.count = search rules in
     record { value = IfOk-weaker c.make_map.result _ _ (λ next does a at. rw is (does c.args.place a)) (c.make_map.ensures.value c.args.code.now) }
-
-pub returns-in-Index : goal.returns-in-Index
-returns-in-Index c =
-    let is : c.args.instr.now ≡ instr.Index = search rules in
-    record { value = IfOk-weaker c.index.result _ _ (λ next does a at. rw is (does c.args.place a)) (c.index.ensures.value c.args.code.now) }
-
-pub returns-in-Slice : goal.returns-in-Slice
-returns-in-Slice c =
-    let is : c.args.instr.now ≡ instr.Slice = search rules in
-    record { value = IfOk-weaker c.slice.result _ _ (λ next does a at. rw is (does c.args.place a)) (c.slice.ensures.value c.args.code.now) }
-
-pub returns-in-Field : goal.returns-in-Field
-returns-in-Field c =
-    let is : c.args.instr.now ≡ instr.Field c.in-Field.n = search rules in
-    record { value = IfOk-weaker c.field.result _ _ (λ next does a at. rw is (does c.args.place a)) (c.field.ensures.value c.args.code.now) }
 
 pub returns-in-Return : goal.returns-in-Return
 returns-in-Return c =

@@ -14,8 +14,8 @@ returns c =
     record {
       value = λ code. IfOk-weaker c.emit_number.result _ _
           (λ next does place a. emit_single code c.args.table place (state_of c.args.self.now a) (Some (int c.args.number)) (drop 1 c.args.self.now.operands)
-          c.requires.top ∙ rw (sym c.drop_top.ensures.value)
-          (subst (λ n. emits_parts code.ignore c.args.table (Some []) (Some (int n)) None place (state_of (record c.args.self.now { operands = c.drop_top.new.self }) a)
+          c.requires.top ∙ rw (sym c.drop_one.ensures.value)
+          (subst (λ n. emits_parts code.ignore c.args.table (Some []) (Some (int n)) None place (state_of (record c.args.self.now { operands = c.drop_one.new.self }) a)
           ≡ leads next place a c.emit_number.new.self) same (does place a)))
           (c.emit_number.ensures.value code.ignore);
     }

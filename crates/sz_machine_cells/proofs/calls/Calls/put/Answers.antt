@@ -1,7 +1,7 @@
 -- One local is another.
 use Rattle.std.proofs.Common.{sym}
 use Rattle.sz_machine_cells.proofs.CallLemmas.{one_kept}
-use Rattle.sz_machine_cells.proofs.calls.Calls.keep.Goals as goal
+use Rattle.sz_machine_cells.proofs.calls.Calls.put.Goals as goal
 
 pub returns : goal.returns
 returns c =

@@ -3,7 +3,7 @@ use Rattle.std.proofs.Common.{◌≡◌, ◌∙◌, ◌∷◌, ap}
 use Rattle.std.proofs.lemmas.Result.{IfOk-weaker}
 use Rattle.sz_world_rules.specs.Operations.{slice_of}
 use Rattle.sz_world_rules.specs.Ticks.{result_weight}
-use Rattle.sz_machine.proofs.run_state.RunState.slice.Goals as goal
+use Rattle.sz_machine.proofs.run_state.RunState.slice_of_any.Goals as goal
 
 pub returns : goal.returns
 returns c =
