@@ -18,8 +18,8 @@ use sz_value::NoMemory;
 const MOST_OPEN_CALLS: usize = 128;
 
 impl<'a> RunState<'a> {
-    /// Pops a slot and goes to the first place where it is false. An undefined one is a fault, or leads to the second place, its line
-    /// being counted.
+    /// Pops a slot and goes on if it is true, and to the first place if it is false. An undefined one is a fault, or leads to the second place,
+    /// its line being counted.
     #[inline(never)]
     pub fn test(
         &mut self,
@@ -41,7 +41,7 @@ impl<'a> RunState<'a> {
     }
 
     /// An undefined value was used. Where the code counts lines, the one at this place of the text is counted, and the answer is true: the
-    /// run passes over it.
+    /// run passes over it. Else the answer is false, and it is a fault.
     #[inline(never)]
     pub fn pass(&mut self, alloc: Global, code: &Code, place: Place) -> Result<bool, NoMemory>
         ensures to { (to : ℕ) → IfOk result (λ passed. PassesTo code.now.ignore place (λ a. to) self.old (if_passed passed (To to)) self.new) }
@@ -56,7 +56,7 @@ impl<'a> RunState<'a> {
         }
     }
 
-    /// Goes to the place where the slot on top isn't true, and leaves it; else pops it.
+    /// Goes to the place if the slot on top isn't true, and leaves it; else pops it.
     #[inline(always)]
     pub fn and_test(&mut self, to: usize) -> Next
         requires some { 0 < length self.old.operands }
@@ -71,7 +71,7 @@ impl<'a> RunState<'a> {
         }
     }
 
-    /// Goes to the place where the slot on top isn't false, and leaves it; else pops it.
+    /// Goes to the place if the slot on top isn't false, and leaves it; else pops it.
     #[inline(always)]
     pub fn or_test(&mut self, to: usize) -> Next
         requires some { 0 < length self.old.operands }
@@ -99,7 +99,7 @@ impl<'a> RunState<'a> {
         }
     }
 
-    /// Pops a slot, and goes to the place where it is false.
+    /// Pops a slot, and goes to the place if it is false.
     #[inline(never)]
     pub fn fails(&mut self, to: usize) -> Next
         requires some { 0 < length self.old.operands }
@@ -126,7 +126,8 @@ impl<'a> RunState<'a> {
         }
     }
 
-    /// Enters the routine with its arguments, from the line at a place, unless one of them is undefined.
+    /// Enters the routine with its arguments, from the line at a place. Where one of them is undefined, so is the result, and nothing is
+    /// called; where 128 calls are open, it is a fault.
     #[inline(never)]
     pub fn call(&mut self, routine: &Routine, at: usize) -> Result<Next, NoMemory>
         requires within { routine.now.params ≤ length self.old.operands }
@@ -170,7 +171,7 @@ impl<'a> RunState<'a> {
         Ok(Next::On)
     }
 
-    /// Takes the next candidate into the local, or drops the list and goes to the place where none is left.
+    /// Takes the next candidate into the local; if none is left, drops the list and goes to the place.
     #[inline(never)]
     pub fn next_candidate(&mut self, alloc: Global, n: u32, to: usize) -> Result<Next, NoMemory>
         requires within { n < length self.old.calls.locals }

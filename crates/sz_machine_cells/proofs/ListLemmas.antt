@@ -3,8 +3,8 @@ use Rattle.std.proofs.Common.{◌≡◌, ◌∙◌, ℕ, zero, suc, ◌+◌, ◌
 use Rattle.std.proofs.Common.{arith}
 use Rattle.std.specs.List.{list_all}
 use Rattle.std.specs.Option.{option_map}
-use Rattle.std.proofs.lemmas.List.{reverse-append, reverse-reverse, length-reverse, length-drop, take-append-drop, map-append}
-use Rattle.std.proofs.Math.Seq.{drop-append_seam, take-append_seam}
+use Rattle.std.proofs.lemmas.List.{reverse-append, reverse-reverse, length-reverse, length-drop, take-append-drop, map-append, get_or-drop, drop-set-lt, drop-drop, append_assoc}
+use Rattle.std.proofs.Math.Seq.{drop-append_seam, take-append_seam, take-suc}
 use Rattle.sz_value.specs.Data.{Datum}
 use Rattle.sz_value.specs.Seen.{seen}
 use Rattle.sz_value.specs.declared.value.Value.{Value}
@@ -97,6 +97,29 @@ set_last (x ∷ []) zero y e = refl
 set_last (x ∷ []) (suc k) y e = absurd (omega (arith, e))
 set_last (x ∷ z ∷ xs) zero y e = absurd (omega (arith, e))
 set_last (x ∷ z ∷ xs) (suc k) y e = ap (λ l. x ∷ l) (set_last (z ∷ xs) k y (omega (arith, e)))
+
+-- the items from a place on are moved behind others, one after the other; those that are left are the same in both lists
+module _ {X : Type 0} (first xs ys : List X) (from i : ℕ) (same : drop (from + i) ys ≡ drop (from + i) xs) where
+  -- one more is moved
+  pub one_moved : (x : X) → from + i < length xs → x ≡ get_or ys (from + i) x → first ++ take (i + 1) (drop from xs) ≡ (first ++ take i (drop from xs)) ++ x ∷ []
+  one_moved x within is =
+      let there : i < length (drop from xs) = omega (arith, within, length-drop from xs) in
+      let none : (from + i) + 0 ≡ from + i = omega arith in
+      let more : i + 1 ≡ suc i = omega arith in
+      let at : (l : List X) → get_or (drop (from + i) l) 0 x ≡ get_or l (from + i) x =
+      λ l. get_or-drop (from + i) l 0 x ∙ ap (λ n. get_or l n x) none in
+      let read : get_or (drop from xs) i x ≡ x =
+      get_or-drop from xs i x ∙ sym (at xs) ∙ sym (ap (λ l. get_or l 0 x) same) ∙ at ys ∙ sym is in
+      ap (λ n. first ++ take n (drop from xs)) more
+      ∙ ap (λ l. first ++ l) (take-suc (drop from xs) i x there ∙ ap (λ z. take i (drop from xs) ++ z ∷ []) read)
+      ∙ sym (append_assoc first (take i (drop from xs)) (x ∷ []))
+
+  -- and the others are still the same
+  pub others_stay : (y : X) → drop (from + (i + 1)) (set ys (from + i) y) ≡ drop (from + (i + 1)) xs
+  others_stay y =
+      let more : (from + i) + 1 ≡ from + (i + 1) = omega arith in
+      drop-set-lt (from + (i + 1)) ys (from + i) y (omega arith)
+      ∙ sym (ap (λ n. drop n ys) more) ∙ sym (drop-drop 1 (from + i) ys) ∙ ap (drop 1) same ∙ drop-drop 1 (from + i) xs ∙ ap (λ n. drop n xs) more
 
 -- the next of the keys
 pub key_next : (vs : List Value) (v : Value) → reverse (map seen (vs ++ v ∷ [])) ≡ seen v ∷ reverse (map seen vs)

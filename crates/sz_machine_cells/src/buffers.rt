@@ -13,7 +13,7 @@ const MOST_IN_PART: usize = 65_535;
 const MOST_BEFORE_PART: usize = 4_294_967_295;
 
 impl<'a> Cell<'a> {
-    /// A cell of a copy of the bytes, of which parts can be had without memory.
+    /// A cell of a copy of the bytes, of which parts of up to 65,535 bytes can be had without memory.
     pub fn of_bytes(alloc: Global, octets: &[u8]) -> Result<Cell<'a>, NoMemory>
         ensures value { IfOk result (λ made. made ≡ Some (bytes octets.now)) }
     {
@@ -42,17 +42,17 @@ impl<'a> Cell<'a> {
     /// A cell of so many bytes of the buffer, after so many others. They lie where they are, unless they are more than a part has.
     pub(crate) fn of_part(
         alloc: Global,
-        buffer: &Rc<Vec<u8>>,
+        buffer: Rc<Vec<u8>>,
         before: usize,
         count: usize,
     ) -> Result<Cell<'a>, NoMemory>
-        ensures value { IfOk result (λ made. made ≡ Some (bytes (take count (drop before buffer.now.value.items)))) }
+        ensures value { IfOk result (λ made. made ≡ Some (bytes (take count (drop before buffer.value.items)))) }
     {
         if count > MOST_IN_PART || before > MOST_BEFORE_PART {
             return Cell::of_bytes(alloc, lying(buffer.as_ref().as_slice(), before, count));
         }
         Ok(Cell {
-            form: Form::Part(count as u16, before as u32, buffer.clone()?),
+            form: Form::Part(count as u16, before as u32, buffer),
         })
     }
 

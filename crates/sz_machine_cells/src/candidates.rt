@@ -50,7 +50,7 @@ impl Model for Candidates {
 }
 
 impl Candidates {
-    /// The candidates that a base gives, for a slice's bound or for an index.
+    /// The candidates that a base gives: for a bound of a slice where `slice` is true, else for an index or a key.
     pub fn of(alloc: Global, slice: bool, base: &Cell<'_>) -> Result<Candidates, NoMemory>
         ensures value { IfOk result (λ made. made ≡ candidates slice base.now) }
     {
@@ -97,7 +97,7 @@ impl Candidates {
     #[tactic(auto, using(crate::proofs::ListLemmas::key_next, crate::proofs::CandidateLemmas::number_next))]
     pub fn next(&mut self) -> Option<Value>
         ensures some { IfSome result (λ value. self.old ≡ seen value ∷ self.new) }
-        ensures none { IfNone result (self.old ≡ []) }
+        ensures none { IfNone result ((self.old ≡ []) × (self.new ≡ [])) }
     {
         match &mut self.left {
             Left::Numbers(next, count) => {

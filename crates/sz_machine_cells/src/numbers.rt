@@ -7,7 +7,8 @@ ghost use Rattle.sz_world_rules.specs.Ticks.{binary_weight};
 use crate::cell::Cell;
 use sz_types::BinOp;
 
-/// What the operator makes of two whole numbers, if it is a common one, without a value in between. Nothing is to be paid for that.
+/// What the operator makes of two whole numbers, without a value in between, if it is a common one and divides by no 0. Nothing is to be paid
+/// for that.
 #[inline(always)]
 pub fn of_ints<'a>(op: BinOp, a: i64, b: i64) -> Option<Cell<'a>>
     ensures value { IfSome result (λ made. binary op (int a) (int b) ≡ made) }

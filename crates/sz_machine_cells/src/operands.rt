@@ -15,6 +15,7 @@ use crate::maps::map_within;
 use crate::weights::result_weight;
 use std::alloc::Global;
 use std::marker::Model;
+use std::mem;
 use sz_value::{List, NoMemory, Value};
 
 /// The operands of a run, in room that is kept.
@@ -98,15 +99,6 @@ impl<'a> Operands<'a> {
         &self.cells[self.cells.len() - 1]
     }
 
-    /// Puts the whole number on top, if there is memory.
-    #[inline(always)]
-    pub fn push_int(&mut self, number: i64) -> bool
-        ensures pushed { result ≡ true → self.new ≡ Some (int number) ∷ self.old }
-        ensures left { result ≡ false → self.new ≡ self.old }
-    {
-        self.push(Cell::of_int(number)).is_ok()
-    }
-
     /// Puts a copy of the cell on top, which shares what owns memory.
     #[inline(never)]
     pub fn push_copy(&mut self, cell: &Cell<'a>) -> Result<(), NoMemory>
@@ -159,6 +151,18 @@ impl<'a> Operands<'a> {
         }
     }
 
+    /// Takes the topmost operand off, if it is a whole number that lies in its cell.
+    #[inline(always)]
+    pub fn pop_int(&mut self) -> Option<i64>
+        requires some { 0 < length self.old }
+        ensures some { IfSome result (λ number. self.old ≡ Some (int number) ∷ self.new) }
+        ensures none { IfNone result (self.new ≡ self.old) }
+    {
+        let number = self.top().int()?;
+        self.drop_one();
+        Some(number)
+    }
+
     /// Takes so many topmost operands off.
     pub fn drop_top(&mut self, count: usize)
         requires within { count ≤ length self.old }
@@ -198,7 +202,8 @@ impl<'a> Operands<'a> {
         composite_weight(&self.cells[from..], most)
     }
 
-    /// The map of so many topmost operands, in which each value stands above its key, if it weighs no more than `most`. They stay where they
+    /// The map of so many topmost operands, in which each value stands above its key, if it weighs no more than `most`. Where one of them is
+    /// undefined, so is the map, and weighs nothing. They stay where they
     /// are, and are weighed there: nothing is copied of a map that weighs more, and of another one what is in it, which of equal keys is
     /// the last one with its value.
     pub fn map_within(
@@ -224,8 +229,7 @@ impl<'a> Operands<'a> {
         ensures grows { length cells.old.items ≤ length cells.new.items }
     {
         let from = self.cells.len() - count;
-        let mut moved = self.cells.split_off(from)?;
-        cells.append(&mut moved)?;
+        move_rest(&mut self.cells, from, cells)?;
         Ok(())
     }
 
@@ -264,6 +268,25 @@ impl<'a> Operands<'a> {
         }
         Ok(values)
     }
+}
+
+// Moves the cells from a place on to the end of others.
+fn move_rest<'a>(
+    cells: &mut Vec<Cell<'a>>,
+    from: usize,
+    to: &mut Vec<Cell<'a>>,
+) -> Result<(), NoMemory>
+    requires within { from ≤ length cells.old.items }
+    ensures rest { OnOk result (cells.new.items ≡ take from cells.old.items) }
+    ensures moved { OnOk result (to.new.items ≡ to.old.items ++ drop from cells.old.items) }
+    ensures grows { length to.old.items ≤ length to.new.items }
+{
+    let count = cells.len() - from;
+    for i in 0..count {
+        to.push(mem::replace(&mut cells[from + i], Cell::undefined()))?;
+    }
+    cells.truncate(from);
+    Ok(())
 }
 
 // Forgets the cell, with what it owns.

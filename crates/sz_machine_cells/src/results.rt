@@ -1,5 +1,5 @@
 //! What operators, functions, conversions and composites make of operands.
-ghost use Rattle.std.specs.Prelude.{◌≡◌, ◌∷◌, [], ℕ, IfOk, Some, take, drop};
+ghost use Rattle.std.specs.Prelude.{◌≡◌, ◌∷◌, [], ℕ, pos, length, IfOk, Some, take, drop};
 ghost use Rattle.sz_types.specs.Seen.{seen as seen_type};
 ghost use Rattle.sz_value.specs.Data.{bytes, int};
 ghost use Rattle.sz_builtin.specs.Conversions.{convert};
@@ -47,17 +47,25 @@ pub fn binary_of<'a>(
     }
 }
 
-/// What the function makes of its one argument, which is looked at where it is. Bytes come first, as they are looked at most often.
+/// What the function makes of its one argument, which is looked at where it is. The length of bytes comes first, as it is asked for most often.
 pub fn applied_to_one<'a>(alloc: Global, which: Builtin, x: &Cell<'_>) -> Result<Cell<'a>, NoMemory>
     ensures value { IfOk result (λ made. made ≡ applied which (x.now ∷ [])) }
 {
-    if let Some(octets) = x.octets() {
-        return Cell::of_slot(alloc, builtin_of_one(alloc, which, &View::Bytes(octets))?);
+    if let (Builtin::Len, Some(octets)) = (which, x.octets()) {
+        return Ok(Cell::of_int(count_of(octets)));
     }
     match x.view() {
         Some(a) => Cell::of_slot(alloc, builtin_of_one(alloc, which, &a)?),
         None => Ok(Cell::undefined()),
     }
+}
+
+// The number of the bytes.
+#[inline(always)]
+fn count_of(octets: &[u8]) -> i64
+    ensures value { result ≡ pos (length octets.now) }
+{
+    octets.len() as i64
 }
 
 /// What the function makes of its two arguments, which are looked at where they are.
@@ -175,15 +183,16 @@ fn element_in<'a>(
     }
 }
 
-/// The part of a value between two places. Of bytes that lie in a buffer it is one that lies there too.
+/// The part of a value between two places. Of bytes that lie in a buffer it is one that lies there too, unless it is longer than 65,535 bytes
+/// or stands after more than 2^32 - 1.
 #[tactic(auto, using(crate::proofs::ResultLemmas::no_beginning, crate::proofs::ResultLemmas::no_end))]
 pub fn slice_of<'a>(
     alloc: Global,
-    x: &Cell<'_>,
+    x: Cell<'_>,
     i: &Cell<'_>,
     j: &Cell<'_>,
 ) -> Result<Cell<'a>, NoMemory>
-    ensures value { IfOk result (λ made. made ≡ slice_of x.now i.now j.now) }
+    ensures value { IfOk result (λ made. made ≡ slice_of x.entry i.now j.now) }
 {
     let Some(from) = i.view() else {
         return Ok(Cell::undefined());
@@ -200,32 +209,27 @@ pub fn slice_of<'a>(
 /// The same between two places that are whole numbers.
 pub fn slice_between<'a>(
     alloc: Global,
-    x: &Cell<'_>,
+    x: Cell<'_>,
     from: i64,
     to: i64,
 ) -> Result<Cell<'a>, NoMemory>
-    ensures value { IfOk result (λ made. made ≡ slice_of x.now (Some (int from)) (Some (int to))) }
+    ensures value { IfOk result (λ made. made ≡ slice_of x.entry (Some (int from)) (Some (int to))) }
 {
-    match &x.form {
+    match x.form {
         Form::Buffer(buffer) => part_of_buffer(alloc, buffer, from, to),
-        Form::Part(count, before, buffer) => {
-            part_of_part(alloc, *count, *before, buffer, from, to)
-        }
-        _ => match x.view() {
-            Some(base) => part_anew(alloc, &base, from, to),
-            None => Ok(Cell::undefined()),
-        },
+        Form::Part(count, before, buffer) => part_of_part(alloc, count, before, buffer, from, to),
+        form => part_of_any(alloc, &Cell { form }, from, to),
     }
 }
 
 // The part between two places of the bytes of a buffer.
 fn part_of_buffer<'a>(
     alloc: Global,
-    buffer: &Rc<Vec<u8>>,
+    buffer: Rc<Vec<u8>>,
     from: i64,
     to: i64,
 ) -> Result<Cell<'a>, NoMemory>
-    ensures value { IfOk result (λ made. made ≡ slice (bytes buffer.now.value.items) from to) }
+    ensures value { IfOk result (λ made. made ≡ slice (bytes buffer.value.items) from to) }
 {
     match bytes_between(buffer.as_ref().as_slice(), from, to) {
         Some((before, count)) => Cell::of_part(alloc, buffer, before, count),
@@ -239,14 +243,25 @@ fn part_of_part<'a>(
     alloc: Global,
     count: u16,
     before: u32,
-    buffer: &Rc<Vec<u8>>,
+    buffer: Rc<Vec<u8>>,
     from: i64,
     to: i64,
 ) -> Result<Cell<'a>, NoMemory>
-    ensures value { IfOk result (λ made. made ≡ slice (bytes (take count (drop before buffer.now.value.items))) from to) }
+    ensures value { IfOk result (λ made. made ≡ slice (bytes (take count (drop before buffer.value.items))) from to) }
 {
-    match bytes_between(part_bytes(count, before, buffer), from, to) {
+    match bytes_between(part_bytes(count, before, &buffer), from, to) {
         Some((more, count)) => Cell::of_part(alloc, buffer, before as usize + more, count),
+        None => Ok(Cell::undefined()),
+    }
+}
+
+// The part between two places of any slot.
+#[inline(never)]
+fn part_of_any<'a>(alloc: Global, x: &Cell<'_>, from: i64, to: i64) -> Result<Cell<'a>, NoMemory>
+    ensures value { IfOk result (λ made. made ≡ slice_of x.now (Some (int from)) (Some (int to))) }
+{
+    match x.view() {
+        Some(base) => part_anew(alloc, &base, from, to),
         None => Ok(Cell::undefined()),
     }
 }

@@ -210,8 +210,8 @@ fn taken(pairs: &mut Pairs, key: &Value) -> Option<Value>
     }
 }
 
-/// The cell of the old one with the new value where the steps lead, if they lead somewhere. Where no other cell shares what the old
-/// one holds, it is changed in place.
+/// The cell of the old one with the new value where the steps lead, if they lead somewhere. A value that the old one has alone is changed in
+/// place; one that another cell shares, or that belongs to the code or the statics, is copied first.
 pub fn stored_in<'a>(
     alloc: Global,
     steps: &[Step],

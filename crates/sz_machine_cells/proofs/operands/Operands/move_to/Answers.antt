@@ -10,7 +10,7 @@ returns-clause-rest c =
     let xs = c.self.inside.cells.items in
     let len : c.len.result ≡ length xs = search rules in
     let within : c.args.count ≤ length xs = omega (arith, c.requires.within, ap length (sym c.self.view_is) ∙ length-reverse xs) in
-    let kept = c.in_ok-moved.ensures.items ∙ ap (λ m. take (m - c.args.count) xs) len in
+    let kept = c.in_ok-move_rest.ensures.rest ∙ ap (λ m. take (m - c.args.count) xs) len in
     ap reverse kept ∙ below_last xs c.args.count within ∙ ap (drop c.args.count) c.self.view_is
 
 pub returns-clause-moved : goal.returns-clause-moved
@@ -18,6 +18,6 @@ returns-clause-moved c =
     let xs = c.self.inside.cells.items in
     let len : c.len.result ≡ length xs = search rules in
     let within : c.args.count ≤ length xs = omega (arith, c.requires.within, ap length (sym c.self.view_is) ∙ length-reverse xs) in
-    let moved = c.in_ok-moved.ensures.tail ∙ ap (λ m. drop (m - c.args.count) xs) len ∙ last_of xs c.args.count within
+    let moved = ap (λ m. drop (m - c.args.count) xs) len ∙ last_of xs c.args.count within
     ∙ ap (popped c.args.count) c.self.view_is in
-    c.in_ok-append.ensures.items ∙ ap (λ ys. c.args.cells.now.items ++ ys) moved
+    c.in_ok-move_rest.ensures.moved ∙ ap (λ ys. c.args.cells.now.items ++ ys) moved
