@@ -99,11 +99,6 @@ abbrev pub if_passed : Bool → Next → Next
 if_passed true next = next
 if_passed false next = Fault undefined_used
 
--- the row was done, and the run goes on after the line; or else nothing was done
-abbrev pub DoesIf : Bool → (Place → State → After) → RunState → RunState → Type 0
-DoesIf true row old new = Does row old On new
-DoesIf false row old new = new ≡ old
-
 -- the ticks that a line takes before its result weighs anything: no charge where no candidate is left
 abbrev pub base_charge : ℕ → Instr → List (List Datum) → ℕ
 base_charge charge (NextCandidate n to) lists = candidate_charge lists charge

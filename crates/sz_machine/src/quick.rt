@@ -1,11 +1,12 @@
 //! What common lines do with whole numbers and truth values that lie in their cells: wholly, or not at all. It takes no memory, adds no ticks
 //! to the charge of the line and never faults, so nothing of it leaves the registers. No clause says when nothing is done.
-ghost use Rattle.std.specs.Prelude.{◌≡◌, ◌<◌, ℕ, length, IfSome, IfNone};
+ghost use Rattle.std.specs.Prelude.{◌≡◌, ◌<◌, ℕ, length, true, false, IfSome, IfNone};
 ghost use Rattle.sz_instr.specs.declared.code.Code.{Code};
 ghost use Rattle.sz_types.specs.declared.place.Place.{Place};
 ghost use Rattle.sz_instr.specs.declared.instr.Instr.TheVariants as instr;
 ghost use Rattle.sz_machine_rules.specs.Rows.{act};
-ghost use Rattle.sz_machine.specs.Acting.{DoesIf, DoesWhere, weighs_and_acts};
+ghost use Rattle.sz_machine.specs.Acting.{Does, DoesWhere, weighs_and_acts};
+ghost use Rattle.sz_machine.specs.declared.run_state.Next.TheVariants.{On};
 
 use crate::run_state::{Next, RunState};
 use sz_machine_cells::of_ints;
@@ -16,7 +17,8 @@ impl<'a> RunState<'a> {
     #[inline(always)]
     pub fn binary_of_ints(&mut self, op: BinOp) -> bool
         requires some { 1 < length self.old.operands }
-        ensures value { (code : Code) → DoesIf result (weighs_and_acts code (instr.Binary op)) self.old self.new }
+        ensures done { (code : Code) → result ≡ true → Does (weighs_and_acts code (instr.Binary op)) self.old On self.new }
+        ensures left { result ≡ false → self.new ≡ self.old }
     {
         let Some((a, b)) = self.operands.top_ints() else {
             return false;
@@ -34,7 +36,8 @@ impl<'a> RunState<'a> {
     pub fn keep_int(&mut self, n: u32) -> bool
         requires within { n < length self.old.calls.locals }
         requires some { 0 < length self.old.operands }
-        ensures value { (code : Code) → DoesIf result (act code (instr.Keep n)) self.old self.new }
+        ensures done { (code : Code) → result ≡ true → Does (act code (instr.Keep n)) self.old On self.new }
+        ensures left { result ≡ false → self.new ≡ self.old }
     {
         let Some(number) = self.operands.pop_int() else {
             return false;
