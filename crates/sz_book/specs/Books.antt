@@ -100,7 +100,8 @@ abbrev pub lanes_home : List (Option LaneData) → List LaneData
 lanes_home homes = filter_map (λ home. home) homes
 
 -- What is left of a shelf: just the lanes that it has at home, in their order and each with the shards that the state has for it, and
--- rows that show the state. Some history leads to that state, and its reports are true
+-- rows that show the state. With a lending in front of each return the shelf's history is legal, and leads to the state but for which
+-- lanes are out. Each noted death is of an attempt that died, and the least bad shard is bad
 pub record IsLeft (died : ℕ → ℕ → Type 0) (faults : ℕ → Type 0) (shelf : ShelfData)
     (lanes : List LaneData) (won notes : List ℕ) (bad : Option ℕ) : Type 0 where
   pub replays : Replays died faults shelf.ledger

@@ -185,7 +185,7 @@ impl<T: Load> Book<T> {
     }
 
     /// Settles the claim's shard by an attempt that ended with its emits. `Late` names the attempt that settled it before, or this one
-    /// where the number was not given for the claim.
+    /// where the claim was not drawn or the number was not given for its shard.
     pub fn settle<W: Wait>(
         &self,
         rt: &W,
@@ -222,7 +222,8 @@ impl<T: Load> Book<T> {
         self.shelf.lock(rt).give(lane_no, lane);
     }
 
-    /// Reports that a shard is bad: more of its records fault than may be passed over. Shards are numbered from 0.
+    /// Reports that a shard is bad: more of its records fault than may be passed over, and not all its attempts died. Shards are numbered
+    /// from 0.
     pub fn bad<W: Wait>(&self, rt: &W, pass: &mut BookPass, shard: u32)
         requires faults { T.faults shard }
         ensures kept { pass.new ≡ pass.old }

@@ -10,7 +10,7 @@ pub type Words = Items<u64>;
 
 /// A closed ledger.
 pub struct Closed<T: Load> {
-    /// The lanes, in order.
+    /// The lanes that are home, in order. Those that are out are missing, so a lane's place need not be its number.
     pub lanes: Vec<Lane<T>>,
     /// For each shard 0, or 1 more than the number of the attempt that settled it.
     pub settled: Words,

@@ -81,7 +81,8 @@ AreDistinct (s ∷ ss) = ¬ IsAmong s ss × AreDistinct ss
 abbrev pub AreApart : List ℕ → List ℕ → Type 0
 AreApart ss ts = (s : ℕ) → IsAmong s ss → ¬ IsAmong s ts
 
--- a reported death is of an attempt that died, and a shard marked bad is bad: more of its records fault than may be passed over
+-- a reported death is of an attempt that died, and a shard marked bad is bad: more of its records fault than may be passed over, and
+-- not all its attempts died
 abbrev pub IsTrueReport : (ℕ → ℕ → Type 0) → (ℕ → Type 0) → Event → Type 0
 IsTrueReport died faults (Died c k) = died c.shard k
 IsTrueReport died faults (Bad s) = faults s

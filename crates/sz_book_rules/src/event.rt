@@ -17,7 +17,7 @@ pub enum Event {
     LaneOut(u32),
     /// Gives back the lane with this number.
     LaneBack(u32),
-    /// The shard is bad: more of its records fault than may be passed over.
+    /// The shard is bad: more of its records fault than may be passed over, and not all its attempts died.
     Bad(u32),
 }
 

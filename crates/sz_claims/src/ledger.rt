@@ -15,7 +15,8 @@ use std::alloc::Global;
 use std::marker::Model;
 use sz_book::{Claim, Closed, Event, Lane, Load, NoMemory, Plan, Receipt, Reply, Settled, Words};
 
-/// The ledger that threads share. Each call is a few single steps on one word, and none waits.
+/// The ledger that threads share. A call makes at most one step on one word, but for `join`, which makes two. Beside its step `lend`
+/// empties the lane's slot, where the lane is home, and `give` fills it. None waits.
 #[derive(Drop)]
 pub struct Ledger<T: Load> {
     table: Table<Option<Lane<T>>, View, Setup, Law<T>, Global>,
@@ -244,7 +245,8 @@ impl<T: Load> Ledger<T> {
         death(&self.table.shared, &mut pass.seat, claim, number);
     }
 
-    /// Reports that a shard is bad: more of its records fault than may be passed over. Shards are numbered from 0.
+    /// Reports that a shard is bad: more of its records fault than may be passed over, and not all its attempts died. Shards are numbered
+    /// from 0.
     pub fn bad(&self, pass: &mut Pass<T>, shard: u32)
         requires of { pass.old.ledger ≡ self.now }
         requires within { shard < self.now.plan.shards }

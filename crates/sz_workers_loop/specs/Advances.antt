@@ -11,7 +11,7 @@ use Rattle.sz_claims.specs.Known.{PassData}
 use Rattle.sz_workers_loop.specs.Makers.{GivesEmits}
 
 -- The event tells the truth of its attempt or shard: a report is true, and a settlement is of an attempt that did not die, on a shard
--- that doesn't fault
+-- that isn't bad
 abbrev pub TellsTruth : (ℕ → ℕ → Type 0) → (ℕ → Type 0) → Event → Type 0
 TellsTruth died faults (Settle c k) = GivesEmits died faults c.shard k
 TellsTruth died faults event = IsTrueReport died faults event

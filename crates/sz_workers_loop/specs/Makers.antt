@@ -3,12 +3,12 @@ use Rattle.std.specs.Prelude.{ℕ}
 use Rattle.sz_workers_loop.specs.declared.maker.Missed.{Missed}
 use Rattle.sz_workers_loop.specs.declared.maker.Missed.TheVariants.{Died, Bad, NoMemory}
 
--- attempt k of shard s died, or it did not, and shard s faults
+-- attempt k of shard s died, or it did not, and shard s is bad
 abbrev pub IsTrueMiss : (ℕ → ℕ → Type 0) → (ℕ → Type 0) → ℕ → ℕ → Missed → Type 0
 IsTrueMiss died faults s k Died = died s k
 IsTrueMiss died faults s k Bad = ¬ died s k × faults s
 IsTrueMiss died faults s k NoMemory = Unit {0}
 
--- attempt k of shard s did not die, and shard s doesn't fault
+-- attempt k of shard s did not die, and shard s isn't bad
 abbrev pub GivesEmits : (ℕ → ℕ → Type 0) → (ℕ → Type 0) → ℕ → ℕ → Type 0
 GivesEmits died faults s k = ¬ died s k × ¬ faults s

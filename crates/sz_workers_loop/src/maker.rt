@@ -11,7 +11,7 @@ use sz_book::{Claim, Load};
 pub enum Missed {
     /// It died.
     Died,
-    /// Its shard is bad: more of its records fault than may be passed over.
+    /// Its shard is bad: more of its records fault than may be passed over, and not all its attempts died.
     Bad,
     /// There was no memory.
     NoMemory,
