@@ -101,7 +101,8 @@ set_last (x ∷ z ∷ xs) (suc k) y e = ap (λ l. x ∷ l) (set_last (z ∷ xs) 
 -- the items from a place on are moved behind others, one after the other; those that are left are the same in both lists
 module _ {X : Type 0} (first xs ys : List X) (from i : ℕ) (same : drop (from + i) ys ≡ drop (from + i) xs) where
   -- one more is moved
-  pub one_moved : (x : X) → from + i < length xs → x ≡ get_or ys (from + i) x → first ++ take (i + 1) (drop from xs) ≡ (first ++ take i (drop from xs)) ++ x ∷ []
+  pub one_moved : (x : X) → from + i < length xs → x ≡ get_or ys (from + i) x
+      → first ++ take (i + 1) (drop from xs) ≡ (first ++ take i (drop from xs)) ++ x ∷ []
   one_moved x within is =
       let there : i < length (drop from xs) = omega (arith, within, length-drop from xs) in
       let none : (from + i) + 0 ≡ from + i = omega arith in
