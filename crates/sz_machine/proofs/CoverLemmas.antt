@@ -9,7 +9,7 @@ use Rattle.sz_instr.specs.declared.step.Step.{Step}
 use Rattle.sz_world_rules.specs.Slots.{Slot}
 use Rattle.sz_types.specs.declared.operator.Builtin.{Builtin}
 use Rattle.sz_types.specs.declared.operator.BinOp.{BinOp}
-use Rattle.sz_machine.specs.Acting.{IsInside, IsSeldom}
+use Rattle.sz_machine.specs.Acting.{IsInside, IsApart}
 use Rattle.sz_machine_rules.specs.Covering.{HasList}
 
 -- there is a candidate list
@@ -100,40 +100,40 @@ pub record IsUncommon (i : Instr) : Type 0 where
   pub no_index : i ≡ Index → ⊥
   pub no_field : (n : ℕ) → i ≡ Field n → ⊥
 
--- and then it is a seldom one
-pub is_seldom : (i : Instr) → IsInside i → IsUncommon i → IsSeldom i
-is_seldom (Push x) h k = absurd (k.no_push x refl)
-is_seldom (Local x) h k = absurd (k.no_local x refl)
-is_seldom (Keep x) h k = absurd (k.no_keep x refl)
-is_seldom (Clear x) h k = absurd (k.no_clear x refl)
-is_seldom (Store x y) h k = absurd (k.no_store x y refl)
-is_seldom (Unary x) h k = tt
-is_seldom (Binary x) h k = absurd (k.no_binary x refl)
-is_seldom Def h k = tt
-is_seldom Tick h k = absurd (k.no_tick refl)
-is_seldom (Jump x) h k = absurd (k.no_jump x refl)
-is_seldom (Test x y) h k = absurd (k.no_test x y refl)
-is_seldom (AndTest x) h k = absurd (k.no_andtest x refl)
-is_seldom (OrTest x) h k = absurd (k.no_ortest x refl)
-is_seldom EndRecord h k = absurd (k.no_endrecord refl)
-is_seldom Discard h k = tt
-is_seldom (Meets x) h k = tt
-is_seldom (Fails x) h k = tt
-is_seldom (Static x) h k = absurd h
-is_seldom Input h k = absurd h
-is_seldom (KeepStatic x) h k = absurd h
-is_seldom (Apply x) h k = absurd (k.no_apply x refl)
-is_seldom (Convert x) h k = absurd (k.no_convert x refl)
-is_seldom (Decode x) h k = tt
-is_seldom (MakeArray x) h k = tt
-is_seldom (MakeTuple x) h k = tt
-is_seldom (MakeMap x) h k = tt
-is_seldom Index h k = absurd (k.no_index refl)
-is_seldom Slice h k = absurd (k.no_slice refl)
-is_seldom (Field x) h k = absurd (k.no_field x refl)
-is_seldom (Call x) h k = tt
-is_seldom Return h k = tt
-is_seldom (Emit x y z) h k = absurd (k.no_emit x y z refl)
-is_seldom (Enter x) h k = tt
-is_seldom (Next x y) h k = tt
-is_seldom Leave h k = tt
+-- and then it stands apart
+pub is_apart : (i : Instr) → IsInside i → IsUncommon i → IsApart i
+is_apart (Push x) h k = absurd (k.no_push x refl)
+is_apart (Local x) h k = absurd (k.no_local x refl)
+is_apart (Keep x) h k = absurd (k.no_keep x refl)
+is_apart (Clear x) h k = absurd (k.no_clear x refl)
+is_apart (Store x y) h k = absurd (k.no_store x y refl)
+is_apart (Unary x) h k = tt
+is_apart (Binary x) h k = absurd (k.no_binary x refl)
+is_apart Def h k = tt
+is_apart Tick h k = absurd (k.no_tick refl)
+is_apart (Jump x) h k = absurd (k.no_jump x refl)
+is_apart (Test x y) h k = absurd (k.no_test x y refl)
+is_apart (AndTest x) h k = absurd (k.no_andtest x refl)
+is_apart (OrTest x) h k = absurd (k.no_ortest x refl)
+is_apart EndRecord h k = absurd (k.no_endrecord refl)
+is_apart Discard h k = tt
+is_apart (Meets x) h k = tt
+is_apart (Fails x) h k = tt
+is_apart (Static x) h k = absurd h
+is_apart Input h k = absurd h
+is_apart (KeepStatic x) h k = absurd h
+is_apart (Apply x) h k = absurd (k.no_apply x refl)
+is_apart (Convert x) h k = absurd (k.no_convert x refl)
+is_apart (Decode x) h k = tt
+is_apart (MakeArray x) h k = tt
+is_apart (MakeTuple x) h k = tt
+is_apart (MakeMap x) h k = tt
+is_apart Index h k = absurd (k.no_index refl)
+is_apart Slice h k = absurd (k.no_slice refl)
+is_apart (Field x) h k = absurd (k.no_field x refl)
+is_apart (Call x) h k = tt
+is_apart Return h k = tt
+is_apart (Emit x y z) h k = absurd (k.no_emit x y z refl)
+is_apart (Enter x) h k = tt
+is_apart (Next x y) h k = tt
+is_apart Leave h k = tt

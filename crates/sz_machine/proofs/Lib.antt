@@ -1,6 +1,7 @@
 pub mod PayLemmas
 pub mod EmitLemmas
 pub mod FlowLemmas
+pub mod QuickLemmas
 pub mod CoverLemmas
 pub mod StepLemmas
 pub mod LineLemmas

@@ -3,7 +3,7 @@ use Rattle.std.specs.Prelude.{◌≡◌, ℕ, suc, List, ◌∷◌, Option, Some
 use Rattle.sz_types.specs.declared.place.Place.{Place}
 use Rattle.sz_instr.specs.declared.instr.Instr.{Instr}
 use Rattle.sz_instr.specs.declared.instr.Instr.TheVariants.{Static, Input, KeepStatic, Next as NextCandidate}
-use Rattle.sz_instr.specs.declared.instr.Instr.TheVariants.{Store, Test, Unary, Decode, MakeArray, MakeTuple, MakeMap}
+use Rattle.sz_instr.specs.declared.instr.Instr.TheVariants.{Unary, Decode, MakeArray, MakeTuple, MakeMap}
 use Rattle.sz_instr.specs.declared.instr.Instr.TheVariants.{Def, Call, Return, Discard, Enter, Leave, Meets, Fails}
 use Rattle.sz_instr.specs.declared.code.Code.{Code}
 use Rattle.sz_value.specs.Data.{Datum}
@@ -99,6 +99,16 @@ abbrev pub if_passed : Bool → Next → Next
 if_passed true next = next
 if_passed false next = Fault undefined_used
 
+-- the row was done, and the run goes on after the line; or else nothing was done
+abbrev pub DoesIf : Bool → (Place → State → After) → RunState → RunState → Type 0
+DoesIf true row old new = Does row old On new
+DoesIf false row old new = new ≡ old
+
+-- a run goes on after a line that was done
+abbrev pub on_if : Bool → Option Next
+on_if true = Some On
+on_if false = None
+
 -- the ticks that a line takes before its result weighs anything: no charge where no candidate is left
 abbrev pub base_charge : ℕ → Instr → List (List Datum) → ℕ
 base_charge charge (NextCandidate n to) lists = candidate_charge lists charge
@@ -116,30 +126,23 @@ IsInside Input = ⊥
 IsInside (KeepStatic n) = ⊥
 IsInside _ = Unit {0}
 
--- the instruction is one that can be left by what stands in line
-abbrev pub IsSeldom : Instr → Type 0
-IsSeldom (Store n path) = Unit {0}
-IsSeldom (Test to past) = Unit {0}
-IsSeldom (Unary op) = Unit {0}
-IsSeldom (Decode ty) = Unit {0}
-IsSeldom (MakeArray count) = Unit {0}
-IsSeldom (MakeTuple count) = Unit {0}
-IsSeldom (MakeMap count) = Unit {0}
-IsSeldom Def = Unit {0}
-IsSeldom (Call function) = Unit {0}
-IsSeldom Return = Unit {0}
-IsSeldom Discard = Unit {0}
-IsSeldom (Enter slice) = Unit {0}
-IsSeldom (NextCandidate n to) = Unit {0}
-IsSeldom Leave = Unit {0}
-IsSeldom (Meets to) = Unit {0}
-IsSeldom (Fails to) = Unit {0}
-IsSeldom _ = ⊥
-
--- the instruction of a line at a place was done, and the run leads so; or it is a seldom one, and nothing was done
-abbrev pub ActsOrLeaves : Code → Instr → Place → ℕ → RunState → Option Next → RunState → Type 0
-ActsOrLeaves code instr place at old (Some next) new = DoesWhere place (λ a. a.at ≡ at) (weighs_and_acts code instr) old next new
-ActsOrLeaves code instr place at old None new = IsSeldom instr × (new ≡ old)
+-- the instruction is one of those that stand out of line in one function
+abbrev pub IsApart : Instr → Type 0
+IsApart (Unary op) = Unit {0}
+IsApart (Decode ty) = Unit {0}
+IsApart (MakeArray count) = Unit {0}
+IsApart (MakeTuple count) = Unit {0}
+IsApart (MakeMap count) = Unit {0}
+IsApart Def = Unit {0}
+IsApart (Call function) = Unit {0}
+IsApart Return = Unit {0}
+IsApart Discard = Unit {0}
+IsApart (Enter slice) = Unit {0}
+IsApart (NextCandidate n to) = Unit {0}
+IsApart Leave = Unit {0}
+IsApart (Meets to) = Unit {0}
+IsApart (Fails to) = Unit {0}
+IsApart _ = ⊥
 
 -- its row covers the run in place with something around it
 pub record IsCovered (code : Code) (instr : Instr) (h : RunState) : Type 0 where

@@ -6,7 +6,7 @@ ghost use Rattle.sz_types.specs.declared.place.Place.{Place};
 ghost use Rattle.sz_machine_rules.specs.Rows.{act};
 ghost use Rattle.sz_machine_rules.specs.Covering.{Covers};
 ghost use Rattle.sz_machine.specs.Acting.{DoesFromTo, DoesWhere, state_of, weighs_and_acts, base_charge, TakesCandidate};
-ghost use Rattle.sz_machine.specs.Acting.{ActsOrLeaves, IsInside, IsSeldom, IsCovered, in_record, in_static};
+ghost use Rattle.sz_machine.specs.Acting.{IsInside, IsApart, IsCovered, in_record, in_static};
 
 use crate::run_state::{Next, RunState, again, if_paid};
 use std::alloc::Global;
@@ -84,7 +84,8 @@ impl<'a> RunState<'a> {
         Ok(Next::On)
     }
 
-    /// What the instruction of a line at a place does, if it has to do with the operands, the locals and the calls alone.
+    /// What the instruction of a line at a place does, if it has to do with the operands, the locals and the calls alone. The common
+    /// ones stand here, so that the loop over the lines has them in line.
     #[inline(always)]
     fn act_inside(
         &mut self,
@@ -99,68 +100,56 @@ impl<'a> RunState<'a> {
         requires covers { IsCovered code.now instr.now self.old }
         ensures value { IfOk result (λ next. DoesWhere place (λ a. a.at ≡ at) (weighs_and_acts code.now instr.now) self.old next self.new) }
     {
-        match self.act_in_line(alloc, code, at, place, instr)? {
-            Some(next) => Ok(next),
-            None => again(self.act_seldom(alloc, code, at, place, instr)),
+        match instr {
+            Instr::Push(n) => self.push(code, *n),
+            Instr::Local(n) => self.push_local(*n),
+            Instr::Keep(n) => self.keep(alloc, *n),
+            Instr::Clear(n) => Ok(self.clear(*n)),
+            Instr::Store(n, path) => self.store(alloc, code, place, *n, path),
+            Instr::Binary(op) => Ok(if_paid(self.binary(alloc, *op)?)),
+            Instr::Tick => Ok(Next::On),
+            Instr::Jump(to) => Ok(Next::To(*to)),
+            Instr::Test(to, past) => again(self.test(alloc, code, place, *to, *past)),
+            Instr::AndTest(to) => Ok(self.and_test(*to)),
+            Instr::OrTest(to) => Ok(self.or_test(*to)),
+            Instr::Emit(table, indexes, weighted) => {
+                self.emit(alloc, code, place, *table, *indexes, *weighted)
+            }
+            Instr::EndRecord => Ok(Next::End),
+            Instr::Apply(which) => Ok(if_paid(self.apply(alloc, *which)?)),
+            Instr::Convert(ty) => Ok(if_paid(self.convert(alloc, code, *ty)?)),
+            Instr::Slice => Ok(if_paid(self.slice(alloc)?)),
+            Instr::Index => {
+                self.index(alloc)?;
+                Ok(Next::On)
+            }
+            Instr::Field(n) => {
+                self.field(alloc, *n)?;
+                Ok(Next::On)
+            }
+            _ => self.act_apart(alloc, code, at, place, instr),
         }
     }
 
-    // What a common instruction does, so that the loop over the lines has it in line. Else nothing is done.
+    // What one of the other instructions does, with the answer made anew.
     #[inline(always)]
-    fn act_in_line(
+    fn act_apart(
         &mut self,
         alloc: Global,
         code: &'a Code,
         at: usize,
         place: Place,
         instr: &Instr,
-    ) -> Result<Option<Next>, NoMemory>
+    ) -> Result<Next, NoMemory>
         requires room { at < usize.MAX }
-        requires inside { IsInside instr.now }
+        requires apart { IsApart instr.now }
         requires covers { IsCovered code.now instr.now self.old }
-        ensures value { IfOk result (λ done. ActsOrLeaves code.now instr.now place at self.old done self.new) }
+        ensures value { IfOk result (λ next. DoesWhere place (λ a. a.at ≡ at) (weighs_and_acts code.now instr.now) self.old next self.new) }
     {
-        match instr {
-            Instr::Push(n) => {
-                self.push(code, *n)?;
-                Ok(Some(Next::On))
-            }
-            Instr::Local(n) => {
-                self.push_local(*n)?;
-                Ok(Some(Next::On))
-            }
-            Instr::Keep(n) => {
-                self.keep(alloc, *n)?;
-                Ok(Some(Next::On))
-            }
-            Instr::Clear(n) => Ok(Some(self.clear(*n))),
-            Instr::Store(n, path) => self.store_whole(alloc, code, place, *n, path),
-            Instr::Binary(op) => Ok(Some(if_paid(self.binary(alloc, *op)?))),
-            Instr::Tick => Ok(Some(Next::On)),
-            Instr::Jump(to) => Ok(Some(Next::To(*to))),
-            Instr::Test(to, _) => Ok(self.test_truth(at, *to)),
-            Instr::AndTest(to) => Ok(Some(self.and_test(*to))),
-            Instr::OrTest(to) => Ok(Some(self.or_test(*to))),
-            Instr::Emit(table, indexes, weighted) => Ok(Some(if_paid(self.emit(
-                alloc, code, place, *table, *indexes, *weighted,
-            )?))),
-            Instr::EndRecord => Ok(Some(Next::End)),
-            Instr::Apply(which) => Ok(Some(if_paid(self.apply(alloc, *which)?))),
-            Instr::Convert(ty) => Ok(Some(if_paid(self.convert(alloc, code, *ty)?))),
-            Instr::Slice => Ok(Some(if_paid(self.slice(alloc)?))),
-            Instr::Index => {
-                self.index(alloc)?;
-                Ok(Some(Next::On))
-            }
-            Instr::Field(n) => {
-                self.field(alloc, *n)?;
-                Ok(Some(Next::On))
-            }
-            _ => Ok(None),
-        }
+        again(self.act_seldom(alloc, code, at, place, instr))
     }
 
-    // What one of the other instructions does, or a common one with operands that aren't.
+    // What one of the other instructions does.
     #[inline(never)]
     fn act_seldom(
         &mut self,
@@ -171,13 +160,11 @@ impl<'a> RunState<'a> {
         instr: &Instr,
     ) -> Result<Next, NoMemory>
         requires room { at < usize.MAX }
-        requires seldom { IsSeldom instr.now }
+        requires apart { IsApart instr.now }
         requires covers { IsCovered code.now instr.now self.old }
         ensures value { IfOk result (λ next. DoesWhere place (λ a. a.at ≡ at) (weighs_and_acts code.now instr.now) self.old next self.new) }
     {
         match instr {
-            Instr::Store(n, path) => self.store(alloc, code, place, *n, path),
-            Instr::Test(to, past) => self.test(alloc, code, place, *to, *past),
             Instr::Unary(op) => self.unary(alloc, *op),
             Instr::Decode(ty) => self.decode(alloc, code, *ty),
             Instr::MakeArray(count) => self.make_array(alloc, *count),

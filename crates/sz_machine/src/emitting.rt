@@ -13,7 +13,7 @@ ghost use Rattle.sz_machine.specs.Acting.{Paid, Does, DoesAt, weighs_and_acts, i
 ghost use Rattle.sz_machine.specs.declared.run_state.Next.TheVariants.{On};
 ghost use Rattle.sz_machine.specs.Emitting.{parts_weight, emits_made, emits_parts, emits_on_top};
 
-use crate::run_state::RunState;
+use crate::run_state::{BUDGET_PASSED, Next, RunState, if_paid};
 use std::alloc::Global;
 use sz_instr::Code;
 use sz_machine_cells::{Cell, result_weight};
@@ -23,7 +23,7 @@ use sz_value::{List, NoMemory, Value};
 
 impl<'a> RunState<'a> {
     /// Pops the parts of an emit to the table, and emits them if all are defined; else its line is counted, if the code counts lines.
-    /// Whether the ticks for them were left. A whole number alone is emitted in line.
+    /// A whole number alone is emitted in line.
     #[inline(always)]
     pub fn emit(
         &mut self,
@@ -33,33 +33,33 @@ impl<'a> RunState<'a> {
         table: u32,
         indexes: u32,
         weighted: bool,
-    ) -> Result<bool, NoMemory>
+    ) -> Result<Next, NoMemory>
         requires within { emit_operands indexes weighted ≤ length self.old.operands }
-        ensures value { IfOk result (λ paid. DoesAt place (weighs_and_acts code.now (instr.Emit table indexes weighted)) self.old (if_paid paid) self.new) }
+        ensures value { IfOk result (λ next. DoesAt place (weighs_and_acts code.now (instr.Emit table indexes weighted)) self.old next self.new) }
     {
         if weighted {
-            return self.emit_any(alloc, code, place, table, indexes, weighted);
+            return Ok(if_paid(self.emit_any(alloc, code, place, table, indexes, weighted)?));
         }
         if indexes != 0 {
-            return self.emit_any(alloc, code, place, table, indexes, weighted);
+            return Ok(if_paid(self.emit_any(alloc, code, place, table, indexes, weighted)?));
         }
         match self.operands.top().int() {
             Some(number) => self.emit_top(alloc, table, number),
-            None => self.emit_any(alloc, code, place, table, indexes, weighted),
+            None => Ok(if_paid(self.emit_any(alloc, code, place, table, indexes, weighted)?)),
         }
     }
 
     // Pops a whole number and emits it, with neither indexes nor a weight.
     #[inline(always)]
-    fn emit_top(&mut self, alloc: Global, table: u32, number: i64) -> Result<bool, NoMemory>
+    fn emit_top(&mut self, alloc: Global, table: u32, number: i64) -> Result<Next, NoMemory>
         requires top { self.old.operands ≡ Some (int number) ∷ drop 1 self.old.operands }
-        ensures value { (code : Code) → IfOk result (λ paid. Does (weighs_and_acts code (instr.Emit table 0 false)) self.old (if_paid paid) self.new) }
+        ensures value { (code : Code) → IfOk result (λ next. Does (weighs_and_acts code (instr.Emit table 0 false)) self.old next self.new) }
     {
         self.operands.drop_one();
         self.emit_number(alloc, table, number)
     }
 
-    // The same of any parts.
+    // The same of any parts. Whether the ticks for them were left.
     #[inline(never)]
     fn emit_any(
         &mut self,
@@ -83,12 +83,12 @@ impl<'a> RunState<'a> {
 
     // Emits a whole number, which weighs one tick.
     #[inline(always)]
-    fn emit_number(&mut self, alloc: Global, table: u32, number: i64) -> Result<bool, NoMemory>
-        ensures value { (counting : Option ℕ) → IfOk result (λ paid.
-            Does (emits_parts counting table (Some []) (Some (int number)) None) self.old (if_paid paid) self.new) }
+    fn emit_number(&mut self, alloc: Global, table: u32, number: i64) -> Result<Next, NoMemory>
+        ensures value { (counting : Option ℕ) → IfOk result (λ next.
+            Does (emits_parts counting table (Some []) (Some (int number)) None) self.old next self.new) }
     {
         if !self.pay(1) {
-            return Ok(false);
+            return Ok(Next::Fault(BUDGET_PASSED));
         }
         self.emits.push(Emit {
             table,
@@ -96,7 +96,7 @@ impl<'a> RunState<'a> {
             value: Value::Int(number),
             weight: None,
         })?;
-        Ok(true)
+        Ok(Next::On)
     }
 
     // Pops the value and the indexes of an emit with this weight.

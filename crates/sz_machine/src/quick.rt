@@ -1,24 +1,71 @@
-//! What common lines do with whole numbers and truth values that lie in their cells: wholly, or not at all. It takes no memory, adds no ticks
-//! to the charge of the line and never faults, so nothing of it leaves the registers. No clause says when nothing is done.
-ghost use Rattle.std.specs.Prelude.{◌≡◌, ◌<◌, ℕ, length, true, false, IfSome, IfNone};
+//! What common lines do, as long as it adds no ticks to the charge of the line and can't fault: constants and locals, and whole numbers
+//! and truth values that lie in their cells, which never leave the registers. Each is done wholly or not at all; no clause says when.
+ghost use Rattle.std.specs.Prelude.{◌≡◌, ◌<◌, ℕ, Option, length, IfSome, IfNone};
 ghost use Rattle.sz_instr.specs.declared.code.Code.{Code};
 ghost use Rattle.sz_types.specs.declared.place.Place.{Place};
 ghost use Rattle.sz_instr.specs.declared.instr.Instr.TheVariants as instr;
-ghost use Rattle.sz_machine_rules.specs.Rows.{act};
-ghost use Rattle.sz_machine.specs.Acting.{Does, DoesWhere, weighs_and_acts};
-ghost use Rattle.sz_machine.specs.declared.run_state.Next.TheVariants.{On};
+ghost use Rattle.sz_machine_rules.specs.Rows.{act, indexes_in, store};
+ghost use Rattle.sz_machine.specs.Acting.{DoesIf, DoesWhere, IsCovered, on_if, weighs_and_acts};
 
 use crate::run_state::{Next, RunState};
+use sz_instr::{Code, Instr, Steps};
 use sz_machine_cells::of_ints;
 use sz_types::BinOp;
+use sz_value::Value;
 
 impl<'a> RunState<'a> {
-    /// Puts what a common operator makes of two whole numbers in their stead.
+    /// What the instruction of a line at a place does, if it is one of these and finds such operands. Else nothing is done.
     #[inline(always)]
-    pub fn binary_of_ints(&mut self, op: BinOp) -> bool
+    pub fn act_quickly(&mut self, code: &'a Code, at: usize, instr: &Instr) -> Option<Next>
+        requires room { at < usize.MAX }
+        requires covers { IsCovered code.now instr.now self.old }
+        ensures done { IfSome result (λ next. (place : Place) →
+            DoesWhere place (λ a. a.at ≡ at) (weighs_and_acts code.now instr.now) self.old next self.new) }
+        ensures left { IfNone result (self.new ≡ self.old) }
+    {
+        match instr {
+            Instr::Push(n) => on_if(self.push_constant(code, *n)),
+            Instr::Local(n) => on_if(self.push_copy_of(*n)),
+            Instr::Binary(op) => on_if(self.binary_of_ints(*op)),
+            Instr::Keep(n) => on_if(self.keep_int(*n)),
+            Instr::Store(n, path) => on_if(self.store_int(*n, path)),
+            Instr::Test(to, _) => self.test_truth(at, *to),
+            Instr::Jump(to) => Some(Next::To(*to)),
+            Instr::Tick => Some(Next::On),
+            _ => None,
+        }
+    }
+
+    // Pushes the constant, which stays where it is, if there is memory.
+    #[inline(always)]
+    fn push_constant(&mut self, code: &'a Code, n: u32) -> bool
+        requires within { n < length code.now.constants }
+        ensures value { DoesIf result (act code.now (instr.Push n)) self.old self.new }
+    {
+        match code.constants.get(n as usize) {
+            Value::Int(number) => self.operands.push_int(*number),
+            other => self.operands.push_lent(other).is_ok(),
+        }
+    }
+
+    // Pushes a copy of the local, if there is memory.
+    #[inline(always)]
+    fn push_copy_of(&mut self, n: u32) -> bool
+        requires within { n < length self.old.calls.locals }
+        ensures value { (code : Code) → DoesIf result (act code (instr.Local n)) self.old self.new }
+    {
+        let local = self.calls.local(n);
+        match local.int() {
+            Some(number) => self.operands.push_int(number),
+            None => self.operands.push_copy(local).is_ok(),
+        }
+    }
+
+    // Puts what a common operator makes of two whole numbers in their stead.
+    #[inline(always)]
+    fn binary_of_ints(&mut self, op: BinOp) -> bool
         requires some { 1 < length self.old.operands }
-        ensures done { (code : Code) → result ≡ true → Does (weighs_and_acts code (instr.Binary op)) self.old On self.new }
-        ensures left { result ≡ false → self.new ≡ self.old }
+        ensures value { (code : Code) → DoesIf result (weighs_and_acts code (instr.Binary op)) self.old self.new }
     {
         let Some((a, b)) = self.operands.top_ints() else {
             return false;
@@ -31,13 +78,12 @@ impl<'a> RunState<'a> {
         true
     }
 
-    /// Pops a whole number into the local.
+    // Pops a whole number into the local.
     #[inline(always)]
-    pub fn keep_int(&mut self, n: u32) -> bool
+    fn keep_int(&mut self, n: u32) -> bool
         requires within { n < length self.old.calls.locals }
         requires some { 0 < length self.old.operands }
-        ensures done { (code : Code) → result ≡ true → Does (act code (instr.Keep n)) self.old On self.new }
-        ensures left { result ≡ false → self.new ≡ self.old }
+        ensures value { (code : Code) → DoesIf result (act code (instr.Keep n)) self.old self.new }
     {
         let Some(number) = self.operands.pop_int() else {
             return false;
@@ -46,9 +92,26 @@ impl<'a> RunState<'a> {
         true
     }
 
-    /// Pops a truth value, and goes on after the line at the place `at` if it is true, and to the place `to` if it is false.
+    // Pops a whole number and puts it into the local, if no path leads further.
     #[inline(always)]
-    pub fn test_truth(&mut self, at: usize, to: usize) -> Option<Next>
+    fn store_int(&mut self, n: u32, path: &Steps) -> bool
+        requires within { n < length self.old.calls.locals }
+        requires some { 0 < length self.old.operands }
+        ensures value { (counting : Option ℕ) → DoesIf result (λ place s. store counting path.now (indexes_in path.now) place n s) self.old self.new }
+    {
+        if !path.is_empty() {
+            return false;
+        }
+        let Some(number) = self.operands.pop_int() else {
+            return false;
+        };
+        self.calls.keep_int(n, number);
+        true
+    }
+
+    // Pops a truth value, and goes on after the line at the place `at` if it is true, and to the place `to` if it is false.
+    #[inline(always)]
+    fn test_truth(&mut self, at: usize, to: usize) -> Option<Next>
         requires room { at < usize.MAX }
         requires some { 0 < length self.old.operands }
         ensures done { IfSome result (λ next. (code : Code) (past : ℕ) (place : Place) →
@@ -59,4 +122,12 @@ impl<'a> RunState<'a> {
         self.operands.drop_one();
         Some(Next::To(if truth { at + 1 } else { to }))
     }
+}
+
+// A run goes on after a line that was done.
+#[inline(always)]
+fn on_if(done: bool) -> Option<Next>
+    ensures value { result ≡ on_if done }
+{
+    if done { Some(Next::On) } else { None }
 }

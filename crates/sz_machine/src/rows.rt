@@ -20,48 +20,42 @@ use sz_machine_cells::{
     slice_between, slice_of, tuple_of, unary_of,
 };
 use sz_types::{BinOp, Builtin, UnOp};
-use sz_value::{NoMemory, Value};
+use sz_value::NoMemory;
 
 impl<'a> RunState<'a> {
     /// Pushes the constant, which stays where it is.
     #[inline(always)]
-    pub fn push(&mut self, code: &'a Code, constant: u32) -> Result<(), NoMemory>
+    pub fn push(&mut self, code: &'a Code, constant: u32) -> Result<Next, NoMemory>
         requires within { constant < length code.now.constants }
-        ensures value { OnOk result (Does (act code.now (instr.Push constant)) self.old On self.new) }
+        ensures value { IfOk result (λ next. Does (act code.now (instr.Push constant)) self.old next self.new) }
     {
-        match code.constants.get(constant as usize) {
-            Value::Int(number) => self.operands.push(Cell::of_int(*number)),
-            other => self.operands.push_lent(other),
-        }
+        self.operands
+            .push_lent(code.constants.get(constant as usize))?;
+        Ok(Next::On)
     }
 
     /// Pushes a copy of the local.
     #[inline(always)]
-    pub fn push_local(&mut self, n: u32) -> Result<(), NoMemory>
+    pub fn push_local(&mut self, n: u32) -> Result<Next, NoMemory>
         requires within { n < length self.old.calls.locals }
-        ensures value { (code : Code) → OnOk result (Does (act code (instr.Local n)) self.old On self.new) }
+        ensures value { (code : Code) → IfOk result (λ next. Does (act code (instr.Local n)) self.old next self.new) }
     {
-        let local = self.calls.local(n);
-        match local.int() {
-            Some(number) => self.operands.push(Cell::of_int(number)),
-            None => self.operands.push_copy(local),
-        }
+        self.operands.push_copy(self.calls.local(n))?;
+        Ok(Next::On)
     }
 
     /// Pops a slot into the local.
     #[inline(always)]
-    pub fn keep(&mut self, alloc: Global, n: u32) -> Result<(), NoMemory>
+    pub fn keep(&mut self, alloc: Global, n: u32) -> Result<Next, NoMemory>
         requires within { n < length self.old.calls.locals }
         requires some { 0 < length self.old.operands }
-        ensures value { (code : Code) → OnOk result (Does (act code (instr.Keep n)) self.old On self.new) }
+        ensures value { (code : Code) → IfOk result (λ next. Does (act code (instr.Keep n)) self.old next self.new) }
     {
-        if self.keep_int(n) {
-            return Ok(());
-        }
-        self.keep_cell(alloc, n)
+        self.keep_cell(alloc, n)?;
+        Ok(Next::On)
     }
 
-    // The same of any slot, out of line.
+    // The same, out of line.
     #[inline(never)]
     fn keep_cell(&mut self, alloc: Global, n: u32) -> Result<(), NoMemory>
         requires within { n < length self.old.calls.locals }
@@ -96,20 +90,8 @@ impl<'a> RunState<'a> {
     }
 
     /// Pops two operands and pushes what the operator makes of them. Whether the ticks for that were left.
-    #[inline(always)]
-    pub fn binary(&mut self, alloc: Global, op: BinOp) -> Result<bool, NoMemory>
-        requires some { 1 < length self.old.operands }
-        ensures value { (code : Code) → IfOk result (λ paid. Does (weighs_and_acts code (instr.Binary op)) self.old (if_paid paid) self.new) }
-    {
-        if self.binary_of_ints(op) {
-            return Ok(true);
-        }
-        self.binary_of_any(alloc, op)
-    }
-
-    // The same of any operands, out of line.
     #[inline(never)]
-    fn binary_of_any(&mut self, alloc: Global, op: BinOp) -> Result<bool, NoMemory>
+    pub fn binary(&mut self, alloc: Global, op: BinOp) -> Result<bool, NoMemory>
         requires some { 1 < length self.old.operands }
         ensures value { (code : Code) → IfOk result (λ paid. Does (weighs_and_acts code (instr.Binary op)) self.old (if_paid paid) self.new) }
     {

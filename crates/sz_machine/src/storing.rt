@@ -1,12 +1,12 @@
 //! Stores into values, by a path.
-ghost use Rattle.std.specs.Prelude.{◌≡◌, ℕ, ◌+◌, ◌<◌, ◌≤◌, [], length, IfOk, IfSome, IfNone, Option};
+ghost use Rattle.std.specs.Prelude.{ℕ, ◌+◌, ◌<◌, ◌≤◌, [], length, IfOk, Option};
 ghost use Rattle.sz_value.specs.Seen.{seen};
 ghost use Rattle.sz_machine_rules.specs.Rows.{indexes_in, store};
 ghost use Rattle.sz_machine.specs.Acting.{Does, DoesAt, if_passed};
 ghost use Rattle.sz_machine.specs.declared.run_state.Next.TheVariants.{On};
 ghost use Rattle.sz_machine.specs.Storing.{stores_values};
 
-use crate::run_state::{Next, RunState, STORE_OUTSIDE, if_passed};
+use crate::run_state::{Next, RunState, STORE_OUTSIDE, again, if_passed};
 use std::alloc::Global;
 use sz_instr::{Code, Step, Steps};
 use sz_machine_cells::{indexes_in, stored_in};
@@ -14,33 +14,44 @@ use sz_types::Place;
 use sz_value::{List, NoMemory, Value};
 
 impl<'a> RunState<'a> {
-    /// Pops a value and puts it into the local, if no path leads further. Else nothing is done.
+    /// Pops a value and the indexes of the path, and puts the value where the path leads in the local.
     #[inline(always)]
-    pub fn store_whole(
+    pub fn store(
         &mut self,
         alloc: Global,
         code: &Code,
         place: Place,
         n: u32,
         path: &Steps,
-    ) -> Result<Option<Next>, NoMemory>
+    ) -> Result<Next, NoMemory>
         requires within { n < length self.old.calls.locals }
-        requires some { 0 < length self.old.operands }
-        ensures done { IfOk result (λ done. IfSome done (λ next.
-            DoesAt place (λ place s. store code.now.ignore path.now (indexes_in path.now) place n s) self.old next self.new)) }
-        ensures left { IfOk result (λ done. IfNone done (self.new ≡ self.old)) }
+        requires some { indexes_in path.now + 1 ≤ length self.old.operands }
+        ensures value { IfOk result (λ next.
+            DoesAt place (λ place s. store code.now.ignore path.now (indexes_in path.now) place n s) self.old next self.new) }
     {
-        if !path.is_empty() {
-            return Ok(None);
+        match path.as_slice() {
+            [] => self.store_whole(alloc, code, place, n),
+            steps => self.store_apart(alloc, code, place, n, steps),
         }
-        if let Some(number) = self.operands.pop_int() {
-            self.calls.keep_int(n, number);
-            return Ok(Some(Next::On));
-        }
-        Ok(Some(if_passed(self.store_cell(alloc, code, place, n)?, Next::On)))
     }
 
-    // Pops a value and puts it into the local, out of line. An undefined one is a fault, and the answer false, but where lines are counted.
+    // Pops a value and puts it into the local.
+    #[inline(always)]
+    fn store_whole(
+        &mut self,
+        alloc: Global,
+        code: &Code,
+        place: Place,
+        n: u32,
+    ) -> Result<Next, NoMemory>
+        requires within { n < length self.old.calls.locals }
+        requires some { 0 < length self.old.operands }
+        ensures value { IfOk result (λ next. DoesAt place (λ place s. store code.now.ignore [] 0 place n s) self.old next self.new) }
+    {
+        Ok(if_passed(self.store_cell(alloc, code, place, n)?, Next::On))
+    }
+
+    // The same, out of line. An undefined value is a fault, and the answer false, but where lines are counted.
     #[inline(never)]
     fn store_cell(
         &mut self,
@@ -62,15 +73,33 @@ impl<'a> RunState<'a> {
         Ok(true)
     }
 
-    /// Pops a value and the indexes of the path, and puts the value where the path leads in the local.
-    #[inline(never)]
-    pub fn store(
+    // Pops a value and the indexes of the steps, and puts the value where they lead in the local, with the answer made anew.
+    #[inline(always)]
+    fn store_apart(
         &mut self,
         alloc: Global,
         code: &Code,
         place: Place,
         n: u32,
-        path: &Steps,
+        path: &[Step],
+    ) -> Result<Next, NoMemory>
+        requires within { n < length self.old.calls.locals }
+        requires some { indexes_in path.now + 1 ≤ length self.old.operands }
+        ensures value { IfOk result (λ next.
+            DoesAt place (λ place s. store code.now.ignore path.now (indexes_in path.now) place n s) self.old next self.new) }
+    {
+        again(self.store_part(alloc, code, place, n, path))
+    }
+
+    // Pops a value and the indexes of the steps, and puts the value where they lead in the local.
+    #[inline(never)]
+    fn store_part(
+        &mut self,
+        alloc: Global,
+        code: &Code,
+        place: Place,
+        n: u32,
+        path: &[Step],
     ) -> Result<Next, NoMemory>
         requires within { n < length self.old.calls.locals }
         requires some { indexes_in path.now + 1 ≤ length self.old.operands }
@@ -78,16 +107,14 @@ impl<'a> RunState<'a> {
             DoesAt place (λ place s. store code.now.ignore path.now (indexes_in path.now) place n s) self.old next self.new) }
     {
         let new = self.operands.pop();
-        let indexes = self
-            .operands
-            .pop_values(alloc, indexes_in(path.as_slice()))?;
+        let indexes = self.operands.pop_values(alloc, indexes_in(path))?;
         let Some(indexes) = indexes else {
             return Ok(if_passed(self.pass(alloc, code, place)?, Next::On));
         };
         let Some(new) = new.into_value(alloc)? else {
             return Ok(if_passed(self.pass(alloc, code, place)?, Next::On));
         };
-        self.store_at(alloc, n, path.as_slice(), &indexes, new)
+        self.store_at(alloc, n, path, &indexes, new)
     }
 
     // Puts the value where the steps with these indexes lead in the local.

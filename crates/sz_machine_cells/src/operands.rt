@@ -99,10 +99,20 @@ impl<'a> Operands<'a> {
         &self.cells[self.cells.len() - 1]
     }
 
+    /// Puts the whole number on top, if there is memory.
+    #[inline(always)]
+    pub fn push_int(&mut self, number: i64) -> bool
+        ensures pushed { result ≡ true → self.new ≡ Some (int number) ∷ self.old }
+        ensures left { result ≡ false → self.new ≡ self.old }
+    {
+        self.push(Cell::of_int(number)).is_ok()
+    }
+
     /// Puts a copy of the cell on top, which shares what owns memory.
     #[inline(never)]
     pub fn push_copy(&mut self, cell: &Cell<'a>) -> Result<(), NoMemory>
         ensures ok { OnOk result (self.new ≡ cell.now ∷ self.old) }
+        ensures err { OnErr result (self.new ≡ self.old) }
     {
         let copy = cell.copy()?;
         self.push(copy)
@@ -112,6 +122,7 @@ impl<'a> Operands<'a> {
     #[inline(never)]
     pub fn push_lent(&mut self, value: &'a Value) -> Result<(), NoMemory>
         ensures ok { OnOk result (self.new ≡ Some (seen value.now) ∷ self.old) }
+        ensures err { OnErr result (self.new ≡ self.old) }
     {
         self.push(Cell::lent(value))
     }

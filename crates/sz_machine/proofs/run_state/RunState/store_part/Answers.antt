@@ -1,6 +1,6 @@
 -- The value and the indexes are there, and the store is made with them.
 use Rattle.std.proofs.Common.{rules}
-use Rattle.sz_machine.proofs.run_state.RunState.store.Goals as goal
+use Rattle.sz_machine.proofs.run_state.RunState.store_part.Goals as goal
 
 pub returns : goal.returns
 returns c =

@@ -1,0 +1,18 @@
+-- Rows that are done in line, or else not at all.
+use Rattle.std.proofs.Common.{◌≡◌, ℕ, Bool, true, false, IfSome, IfNone}
+use Rattle.sz_types.specs.declared.place.Place.{Place}
+use Rattle.sz_machine_rules.specs.States.{State, After}
+use Rattle.sz_machine.specs.declared.run_state.RunState.{RunState}
+use Rattle.sz_machine.specs.Acting.{DoesIf, DoesWhere, on_if}
+
+module _ (row : Place → State → After) (old new : RunState) where
+  -- where it goes on, the row was done
+  pub row_done : (done : Bool) (at : ℕ) → DoesIf done row old new
+      → IfSome (on_if done) (λ next. (place : Place) → DoesWhere place (λ a. a.at ≡ at) row old next new)
+  row_done true at does = λ place a is. does place a
+  row_done false at same = tt
+
+  -- else nothing was
+  pub row_left : (done : Bool) → DoesIf done row old new → IfNone (on_if done) (new ≡ old)
+  row_left true does = tt
+  row_left false same = same

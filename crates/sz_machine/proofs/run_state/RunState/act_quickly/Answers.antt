@@ -1,0 +1,61 @@
+-- Each row is done, or nothing is.
+use Rattle.std.proofs.Common.{rules, ◌≡◌}
+use Rattle.sz_instr.specs.declared.instr.Instr.TheVariants as instr
+use Rattle.sz_machine.specs.Acting.{weighs_and_acts}
+use Rattle.sz_machine.proofs.QuickLemmas.{row_done, row_left}
+use Rattle.sz_machine.proofs.run_state.RunState.act_quickly.Goals as goal
+
+pub returns-in-Push-clause-done : goal.returns-in-Push-clause-done
+returns-in-Push-clause-done c =
+    let is : c.args.instr.now ≡ instr.Push c.in-Push.n = search rules in
+    let row = weighs_and_acts c.args.code.now (instr.Push c.in-Push.n) in
+    rw c.on_if.ensures.value (rw is (row_done row c.args.self.now c.push_constant.new.self c.push_constant.result c.args.at c.push_constant.ensures.value))
+
+pub returns-in-Push-clause-left : goal.returns-in-Push-clause-left
+returns-in-Push-clause-left c =
+    let row = weighs_and_acts c.args.code.now (instr.Push c.in-Push.n) in
+    rw c.on_if.ensures.value (row_left row c.args.self.now c.push_constant.new.self c.push_constant.result c.push_constant.ensures.value)
+
+pub returns-in-Local-clause-done : goal.returns-in-Local-clause-done
+returns-in-Local-clause-done c =
+    let is : c.args.instr.now ≡ instr.Local c.in-Local.n = search rules in
+    let row = weighs_and_acts c.args.code.now (instr.Local c.in-Local.n) in
+    rw c.on_if-in-Local.ensures.value (rw is (row_done row c.args.self.now c.push_copy_of.new.self c.push_copy_of.result c.args.at (c.push_copy_of.ensures.value c.args.code.now)))
+
+pub returns-in-Local-clause-left : goal.returns-in-Local-clause-left
+returns-in-Local-clause-left c =
+    let row = weighs_and_acts c.args.code.now (instr.Local c.in-Local.n) in
+    rw c.on_if-in-Local.ensures.value (row_left row c.args.self.now c.push_copy_of.new.self c.push_copy_of.result (c.push_copy_of.ensures.value c.args.code.now))
+
+pub returns-in-Binary-clause-done : goal.returns-in-Binary-clause-done
+returns-in-Binary-clause-done c =
+    let is : c.args.instr.now ≡ instr.Binary c.in-Binary.op = search rules in
+    let row = weighs_and_acts c.args.code.now (instr.Binary c.in-Binary.op) in
+    rw c.on_if-in-Binary.ensures.value (rw is (row_done row c.args.self.now c.binary_of_ints.new.self c.binary_of_ints.result c.args.at (c.binary_of_ints.ensures.value c.args.code.now)))
+
+pub returns-in-Binary-clause-left : goal.returns-in-Binary-clause-left
+returns-in-Binary-clause-left c =
+    let row = weighs_and_acts c.args.code.now (instr.Binary c.in-Binary.op) in
+    rw c.on_if-in-Binary.ensures.value (row_left row c.args.self.now c.binary_of_ints.new.self c.binary_of_ints.result (c.binary_of_ints.ensures.value c.args.code.now))
+
+pub returns-in-Keep-clause-done : goal.returns-in-Keep-clause-done
+returns-in-Keep-clause-done c =
+    let is : c.args.instr.now ≡ instr.Keep c.in-Keep.n = search rules in
+    let row = weighs_and_acts c.args.code.now (instr.Keep c.in-Keep.n) in
+    rw c.on_if-in-Keep.ensures.value (rw is (row_done row c.args.self.now c.keep_int.new.self c.keep_int.result c.args.at (c.keep_int.ensures.value c.args.code.now)))
+
+pub returns-in-Keep-clause-left : goal.returns-in-Keep-clause-left
+returns-in-Keep-clause-left c =
+    let row = weighs_and_acts c.args.code.now (instr.Keep c.in-Keep.n) in
+    rw c.on_if-in-Keep.ensures.value (row_left row c.args.self.now c.keep_int.new.self c.keep_int.result (c.keep_int.ensures.value c.args.code.now))
+
+pub returns-in-Store-clause-done : goal.returns-in-Store-clause-done
+returns-in-Store-clause-done c =
+    let is : c.args.instr.now ≡ instr.Store c.in-Store.n c.in-Store.path = search rules in
+    let row = weighs_and_acts c.args.code.now (instr.Store c.in-Store.n c.in-Store.path) in
+    rw c.on_if-in-Store.ensures.value (rw is (row_done row c.args.self.now c.store_int.new.self c.store_int.result c.args.at (c.store_int.ensures.value c.args.code.now.ignore)))
+
+pub returns-in-Store-clause-left : goal.returns-in-Store-clause-left
+returns-in-Store-clause-left c =
+    let row = weighs_and_acts c.args.code.now (instr.Store c.in-Store.n c.in-Store.path) in
+    rw c.on_if-in-Store.ensures.value (row_left row c.args.self.now c.store_int.new.self c.store_int.result (c.store_int.ensures.value c.args.code.now.ignore))
