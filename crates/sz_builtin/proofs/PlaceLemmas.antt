@@ -1,11 +1,11 @@
 -- The first place of a list in another, and of a text in another by its bytes.
-use Rattle.std.proofs.Common.{◌≡◌, ◌∙◌, ℕ, zero, suc, ◌+◌, ◌<◌, ◌≤◌, Bool, true, false, ◌&&◌, nat_eq, if◌then◌else◌, Option, Some, None, MatchOption, List, [], ◌∷◌, ◌++◌, length, take, drop, get_or, refl, sym, ap, subst, arith, rules, inl, inr}
+use Rattle.std.proofs.Common.{◌≡◌, ◌∙◌, ℕ, zero, suc, ◌+◌, ◌<◌, ◌≤◌, Bool, true, false, ◌&&◌, nat_eq, if◌then◌else◌, Option, Some, None, MatchOption, List, [], ◌∷◌, ◌++◌, length, take, drop, slice_index, get_or, refl, sym, ap, subst, arith, rules, inl, inr}
 use Rattle.std.proofs.lemmas.Bool.{eqb-true, eq-eqb, false≢true, cases_order}
 use Rattle.std.proofs.lemmas.List.{take_at, drop_at, take-append-drop, take-append-le, length-append, length-drop, length-take-le}
 use Rattle.std.proofs.lemmas.Str.{chars-append, encodes-append, encodes-chars, length-le-encodes, IsUtf8-take, IsCharBoundary-start}
 use Rattle.std.specs.Option.{option_map}
 use Rattle.std.specs.Str.{chars, encode_utf8_all, IsUtf8, IsCharBoundary}
-use Rattle.memchr.specs.Find.{OccursAt, FindsNeedle}
+use Rattle.memchr.specs.Find.{OccursAt, FindsNeedle, IsFirstByte, is_byte}
 use Rattle.memchr.proofs.lemmas.MatchLemmas.{OccursAt-split, OccursAt-from_part}
 use Rattle.sz_builtin.specs.Predeclared.{begins, first_place}
 use Rattle.sz_builtin.proofs.TypeLemmas.{both}
@@ -106,6 +106,32 @@ bytes_first hay needle (Some p) h = (
 
 pub byte_place_is : (hay needle : List ℕ) (r : Option ℕ) → FindsNeedle hay needle 0 r → r ≡ first_place needle hay
 byte_place_is hay needle r h = place_is needle hay r (bytes_first hay needle r h)
+
+-- a byte occurs as a needle just where it stands
+occurs_as : (hay : List ℕ) (byte k : ℕ) → k < length hay → is_byte byte (slice_index hay k) ≡ true → OccursAt hay (byte ∷ []) k
+occurs_as hay byte k less is = record {
+  fits = omega (arith, less);
+  reads = λ j l. ap (λ n. slice_index hay n) (omega (arith, l)) ∙ eqb-true (slice_index hay k) byte is ∙ sym (ap (λ n. slice_index (byte ∷ []) n) (only j l));
+}
+  where
+    only : (j : ℕ) → j < 1 → j ≡ 0
+    only j l = omega (arith, l)
+
+byte_at : (hay : List ℕ) (byte k : ℕ) → OccursAt hay (byte ∷ []) k → is_byte byte (slice_index hay k) ≡ true
+byte_at hay byte k o =
+    eq-eqb (slice_index hay k) byte (ap (λ n. slice_index hay n) (omega arith) ∙ o.reads 0 (omega arith))
+
+finds_byte : (hay : List ℕ) (byte : ℕ) (r : Option ℕ) → IsFirstByte (is_byte byte) hay r → FindsNeedle hay (byte ∷ []) 0 r
+finds_byte hay byte None h = λ k low high o. h k low (omega (arith, o.fits)) (byte_at hay byte k o)
+finds_byte hay byte (Some p) h =
+    let less = h.0.high in
+    (record { low = h.0.low; high = omega (arith, less); before = λ k low high o. h.0.before k low high (byte_at hay byte k o) }, occurs_as hay byte p less h.1)
+
+-- the first place of the one byte of a needle is that of the needle
+pub one_byte_is : (hay needle : List ℕ) (r : Option ℕ) → length needle ≡ 1 → IsFirstByte (is_byte (get_or needle 0 0)) hay r → r ≡ first_place needle hay
+one_byte_is hay [] r one h = absurd (omega (arith, one))
+one_byte_is hay (byte ∷ []) r one h = byte_place_is hay (byte ∷ []) r (finds_byte hay byte r h)
+one_byte_is hay (byte ∷ other ∷ more) r one h = absurd (omega (arith, one))
 
 -- ---- a text in a text
 
