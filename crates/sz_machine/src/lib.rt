@@ -7,6 +7,7 @@ mod code_run;
 mod emitting;
 mod ends;
 mod flow;
+mod octets;
 mod quick;
 mod rows;
 mod run_state;

@@ -1,5 +1,5 @@
-//! What common lines do, as long as it adds no ticks to the charge of the line and can't fault: constants and locals, and whole numbers
-//! and truth values that lie in their cells, which never leave the registers. Each is done wholly or not at all; no clause says when.
+//! What common lines do, as long as it can't fault: constants and locals; whole numbers and truth values that lie in their cells, which never
+//! leave the registers; and bytes where they lie. Each is done wholly or not at all; no clause says when.
 ghost use Rattle.std.specs.Prelude.{◌≡◌, ◌<◌, ℕ, Option, length, IfSome, IfNone};
 ghost use Rattle.sz_instr.specs.declared.code.Code.{Code};
 ghost use Rattle.sz_types.specs.declared.place.Place.{Place};
@@ -32,6 +32,9 @@ impl<'a> RunState<'a> {
             Instr::Test(to, _) => self.test_truth(at, *to),
             Instr::Jump(to) => Some(Next::To(*to)),
             Instr::Tick => Some(Next::On),
+            Instr::Apply(which) => on_if(self.apply_to_octets(*which)),
+            Instr::Convert(ty) => on_if(self.read_number(code, *ty)),
+            Instr::Slice => on_if(self.cut()),
             _ => None,
         }
     }

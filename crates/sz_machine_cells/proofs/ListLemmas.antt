@@ -3,7 +3,7 @@ use Rattle.std.proofs.Common.{◌≡◌, ◌∙◌, ℕ, zero, suc, ◌+◌, ◌
 use Rattle.std.proofs.Common.{arith}
 use Rattle.std.specs.List.{list_all}
 use Rattle.std.specs.Option.{option_map}
-use Rattle.std.proofs.lemmas.List.{reverse-append, reverse-reverse, length-reverse, length-drop, take-append-drop, map-append, get_or-drop, drop-set-lt, drop-drop, append_assoc}
+use Rattle.std.proofs.lemmas.List.{reverse-append, reverse-reverse, length-reverse, length-drop, length-set, take-append-drop, take_more_set, set-get_or, map-append, get_or-drop, drop-set-lt, drop-drop, append_assoc}
 use Rattle.std.proofs.Math.Seq.{drop-append_seam, take-append_seam, take-suc}
 use Rattle.sz_value.specs.Data.{Datum}
 use Rattle.sz_value.specs.Seen.{seen}
@@ -131,6 +131,18 @@ pub top_set : {X : Type 0} → (xs : List X) (y : X) → 0 < length xs → rever
 top_set xs y h =
     let k = length xs - 1 in
     ap reverse (set_last xs k y (omega (arith, h))) ∙ reverse-append (take k xs) (y ∷ []) ∙ ap (λ l. y ∷ l) (below_last xs 1 h)
+
+-- another third item from the top, below two that are taken off
+pub third_set : {X : Type 0} → (xs : List X) (y : X) → 2 < length xs → drop 2 (reverse (set xs (length xs - 3) y)) ≡ y ∷ drop 3 (reverse xs)
+third_set xs y h =
+    let k = length xs - 3 in
+    let ys = set xs k y in
+    let long = length-set xs k y in
+    sym (below_last ys 2 (omega (arith, long, h))) ∙ ap (λ n. reverse (take n ys)) (omega (arith, long, h)) ∙ ap reverse (take_more_set xs k y (omega (arith, h)))
+    ∙ reverse-append (take k xs) (y ∷ []) ∙ ap (λ l. y ∷ l) (below_last xs 3 (omega (arith, h)))
+
+pub third_is : {X : Type 0} → (xs : List X) (d : X) → 2 < length xs → drop 2 (reverse xs) ≡ get_or xs (length xs - 3) d ∷ drop 3 (reverse xs)
+third_is xs d h = ap (λ ys. drop 2 (reverse ys)) (sym (set-get_or xs (length xs - 3) d)) ∙ third_set xs (get_or xs (length xs - 3) d) h
 
 -- the values of a list that is turned round
 defined_back : (xs : List Slot) → defined_of (reverse xs) ≡ reverse (defined_of xs)

@@ -1,8 +1,9 @@
 -- What is made of operands whose values are at hand.
-use Rattle.std.specs.Prelude.{◌≡◌, ℕ, ◌+◌, ◌-◌, ◌^◌, min, List, [], ◌∷◌, Option, Some, None, option_map}
-use Rattle.sz_value.specs.Data.{Datum, array, tuple, data_of}
+use Rattle.std.specs.Prelude.{◌≡◌, ℕ, ℤ, ◌+◌, ◌-◌, ◌^◌, min, List, [], ◌∷◌, Option, Some, None, option_map}
+use Rattle.sz_value.specs.Data.{Datum, int, array, tuple, data_of}
 use Rattle.sz_world_rules.specs.Slots.{Slot}
 use Rattle.sz_value.specs.Weight.{data_weight}
+use Rattle.sz_world_rules.specs.Operations.{slice_of}
 use Rattle.sz_world_rules.specs.Ticks.{result_weight}
 
 -- the array of these elements, if they are all defined
@@ -44,3 +45,11 @@ slots_weight (x ∷ xs) = result_weight x + slots_weight xs
 abbrev pub composite_weight : Option (List Datum) → ℕ
 composite_weight None = 0
 composite_weight (Some ds) = min (1 + data_weight (data_of ds)) (2 ^ 64 - 1)
+
+-- the two topmost slots were these places, and with what lay below them were replaced by its part between them, which weighs so much
+pub record IsCut (from to : ℤ) (weight : ℕ) (old new : List Slot) : Type 0 where
+  pub base : Slot
+  pub below : List Slot
+  pub was : old ≡ Some (int to) ∷ Some (int from) ∷ base ∷ below
+  pub is : new ≡ slice_of base (Some (int from)) (Some (int to)) ∷ below
+  pub weighs : weight ≡ result_weight (slice_of base (Some (int from)) (Some (int to)))

@@ -1,10 +1,14 @@
 //! Cells whose bytes lie in a buffer.
-ghost use Rattle.std.specs.Prelude.{◌≡◌, IfOk, IfSome, OnOk, Some, take, drop};
-ghost use Rattle.sz_value.specs.Data.{bytes};
+ghost use Rattle.std.specs.Prelude.{◌≡◌, ◌≤◌, IfOk, IfSome, IfNone, OnOk, Some, take, drop};
+ghost use Rattle.sz_value.specs.Data.{bytes, int};
+ghost use Rattle.sz_world_rules.specs.Operations.{slice_of};
+ghost use Rattle.sz_world_rules.specs.Ticks.{result_weight};
+ghost use Rattle.sz_machine_cells.specs.Cells.{slot_of};
 
 use crate::cell::{Cell, Form};
 use std::alloc::Global;
 use std::rc::Rc;
+use sz_builtin::bytes_between;
 use sz_value::{NoMemory, Value};
 
 // How many bytes a part can have, and how many can lie before it.
@@ -56,6 +60,29 @@ impl<'a> Cell<'a> {
         })
     }
 
+    /// Becomes the part between two places, if the cell has a part of a buffer, the slice is defined, and it weighs no more than `most`: what it
+    /// weighs. Nothing is moved.
+    #[inline(always)]
+    #[tactic(auto, using(crate::proofs::ResultLemmas::part_in_part))]
+    pub(crate) fn cut(&mut self, from: i64, to: i64, most: u64) -> Option<u64>
+        ensures made { IfSome result (λ weight. self.new ≡ slice_of self.old (Some (int from)) (Some (int to))) }
+        ensures weight { IfSome result (λ weight. (weight ≡ result_weight self.new) × (weight ≤ most)) }
+        ensures left { IfNone result (self.new ≡ self.old) }
+    {
+        let Form::Part(count, before, buffer) = &mut self.form else {
+            return None;
+        };
+        let (more, few) = bytes_between(part_bytes(*count, *before, buffer), from, to)?;
+        let weight = few as u64 + 1;
+        let after = *before as usize + more;
+        if weight > most || few > MOST_IN_PART || after > MOST_BEFORE_PART {
+            return None;
+        }
+        *count = few as u16;
+        *before = after as u32;
+        Some(weight)
+    }
+
     /// Holds a copy of the bytes from now on. The buffer in which the cell had bytes serves again, unless another shares it.
     pub fn set_bytes(&mut self, alloc: Global, octets: &[u8]) -> Result<(), NoMemory>
         ensures value { OnOk result (self.new ≡ Some (bytes octets.now)) }
@@ -68,6 +95,19 @@ impl<'a> Cell<'a> {
         *self = Cell::of_bytes(alloc, octets)?;
         Ok(())
     }
+}
+
+// All bytes of a buffer: as a part, which can be cut without being moved, if there aren't too many.
+#[inline(always)]
+#[tactic(auto, using(crate::proofs::ResultLemmas::all_are_a_part))]
+pub(crate) fn all_of<'a>(buffer: Rc<Vec<u8>>) -> Form<'a>
+    ensures value { slot_of result ≡ Some (bytes buffer.value.items) }
+{
+    let count = buffer.as_ref().len();
+    if count > MOST_IN_PART {
+        return Form::Buffer(buffer);
+    }
+    Form::Part(count as u16, 0, buffer)
 }
 
 // Holds the bytes in the stead of those before, in their memory where that is enough.

@@ -5,7 +5,7 @@ ghost use Rattle.sz_value.specs.Seen.{seen, seen_slot};
 ghost use Rattle.sz_builtin.specs.Views.{seen_view};
 ghost use Rattle.sz_machine_cells.specs.Cells.{truth_of};
 
-use crate::buffers::part_bytes;
+use crate::buffers::{all_of, part_bytes};
 use crate::inside::{Inside, view_of_nth};
 use std::alloc::Global;
 use std::marker::Model;
@@ -360,7 +360,7 @@ impl<'a> Cell<'a> {
             Form::Lent(value) => Form::Lent(value),
             Form::Element(place, shared) => Form::Element(*place, shared.clone()?),
             Form::Inside(inside) => Form::Inside(inside.clone()?),
-            Form::Buffer(buffer) => Form::Buffer(buffer.clone()?),
+            Form::Buffer(buffer) => all_of(buffer.clone()?),
             Form::Part(count, before, buffer) => Form::Part(*count, *before, buffer.clone()?),
         };
         Ok(Cell { form })

@@ -1,14 +1,14 @@
 //! The operands of a run.
 ghost use Rattle.std.specs.Prelude.{◌≡◌, ◌≤◌, ◌<◌, ◌+◌, IfNone, [], ◌∷◌, length, map, take, drop, ◌++◌, is_some, true, false, IfOk, IfSome, OnOk, OnErr, Some};
 ghost use Rattle.std.specs.List.{list_all};
-ghost use Rattle.sz_value.specs.Data.{int};
+ghost use Rattle.sz_value.specs.Data.{bytes, int};
 ghost use Rattle.sz_value.specs.Seen.{seen};
 ghost use Rattle.sz_world_rules.specs.Slots.{all_defined};
 ghost use Rattle.sz_machine_rules.specs.States.{popped};
 ghost use Rattle.sz_world_rules.specs.Emits.{weight_if_all};
 ghost use Rattle.sz_world_rules.specs.Operations.{map_of};
 ghost use Rattle.sz_world_rules.specs.Ticks.{result_weight};
-ghost use Rattle.sz_machine_cells.specs.Results.{defined_of, slots_weight, composite_weight};
+ghost use Rattle.sz_machine_cells.specs.Results.{defined_of, slots_weight, composite_weight, IsCut};
 
 use crate::cell::{Cell, Form};
 use crate::maps::map_within;
@@ -138,6 +138,48 @@ impl<'a> Operands<'a> {
             (Some(a), Some(b)) => Some((a, b)),
             _ => None,
         }
+    }
+
+    /// The topmost operand, if it is bytes that lie in a buffer, or in a value that stays with its owner.
+    #[inline(always)]
+    pub fn top_octets(&self) -> Option<&[u8]>
+        requires some { 0 < length self.now }
+        ensures value { IfSome result (λ octets. self.now ≡ Some (bytes octets.now) ∷ drop 1 self.now) }
+    {
+        self.cells[self.cells.len() - 1].octets()
+    }
+
+    /// The two topmost operands, the upper one last, if both are such bytes.
+    #[inline(always)]
+    pub fn top_two_octets(&self) -> Option<(&[u8], &[u8])>
+        requires some { 1 < length self.now }
+        ensures value { IfSome result (λ two. self.now ≡ Some (bytes two.1.now) ∷ Some (bytes two.0.now) ∷ drop 2 self.now) }
+    {
+        let count = self.cells.len();
+        match (
+            self.cells[count - 2].octets(),
+            self.cells[count - 1].octets(),
+        ) {
+            (Some(a), Some(b)) => Some((a, b)),
+            _ => None,
+        }
+    }
+
+    /// Puts the part between two places in the stead of these whole numbers, which are the two topmost operands, and of what it is a part of,
+    /// if that is bytes in a buffer and the part weighs no more than `most`: what it weighs. Else nothing is done.
+    #[inline(always)]
+    pub fn cut_below(&mut self, from: i64, to: i64, most: u64) -> Option<u64>
+        requires some { 2 < length self.old }
+        requires ints { self.old ≡ Some (int to) ∷ Some (int from) ∷ drop 2 self.old }
+        ensures made { IfSome result (λ weight. IsCut from to weight self.old self.new) }
+        ensures most { IfSome result (λ weight. weight ≤ most) }
+        ensures left { IfNone result (self.new ≡ self.old) }
+    {
+        let place = self.cells.len() - 3;
+        let weight = self.cells[place].cut(from, to, most)?;
+        self.drop_one();
+        self.drop_one();
+        Some(weight)
     }
 
     /// Puts the cell in the stead of the topmost operand.

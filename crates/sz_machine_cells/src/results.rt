@@ -47,25 +47,14 @@ pub fn binary_of<'a>(
     }
 }
 
-/// What the function makes of its one argument, which is looked at where it is. The length of bytes comes first, as it is asked for most often.
+/// What the function makes of its one argument, which is looked at where it is.
 pub fn applied_to_one<'a>(alloc: Global, which: Builtin, x: &Cell<'_>) -> Result<Cell<'a>, NoMemory>
     ensures value { IfOk result (λ made. made ≡ applied which (x.now ∷ [])) }
 {
-    if let (Builtin::Len, Some(octets)) = (which, x.octets()) {
-        return Ok(Cell::of_int(count_of(octets)));
-    }
     match x.view() {
         Some(a) => Cell::of_slot(alloc, builtin_of_one(alloc, which, &a)?),
         None => Ok(Cell::undefined()),
     }
-}
-
-// The number of the bytes.
-#[inline(always)]
-fn count_of(octets: &[u8]) -> i64
-    ensures value { result ≡ pos (length octets.now) }
-{
-    octets.len() as i64
 }
 
 /// What the function makes of its two arguments, which are looked at where they are.
@@ -77,10 +66,6 @@ pub fn applied_to_two<'a>(
 ) -> Result<Cell<'a>, NoMemory>
     ensures value { IfOk result (λ made. made ≡ applied which (x.now ∷ y.now ∷ [])) }
 {
-    if let (Some(a), Some(b)) = (x.octets(), y.octets()) {
-        let (a, b) = (View::Bytes(a), View::Bytes(b));
-        return Cell::of_slot(alloc, builtin_of_two(alloc, which, &a, &b)?);
-    }
     match (x.view(), y.view()) {
         (Some(a), Some(b)) => Cell::of_slot(alloc, builtin_of_two(alloc, which, &a, &b)?),
         _ => Ok(Cell::undefined()),
@@ -91,9 +76,6 @@ pub fn applied_to_two<'a>(
 pub fn converted<'a>(alloc: Global, to: &Ty, x: &Cell<'_>) -> Result<Cell<'a>, NoMemory>
     ensures value { IfOk result (λ made. made ≡ converted_plainly (seen_type to.now) x.now) }
 {
-    if let Some(octets) = x.octets() {
-        return became(alloc, to, &View::Bytes(octets));
-    }
     match x.view() {
         Some(a) => became(alloc, to, &a),
         None => Ok(Cell::undefined()),

@@ -1,0 +1,104 @@
+//! What common lines do to bytes that lie in a buffer, or in a value that stays with its owner: they are measured, searched, read as a number
+//! and cut where they lie, and no slot is made around what comes of it. Each is done wholly or not at all; no clause says when.
+ghost use Rattle.std.specs.Prelude.{◌≡◌, ◌<◌, ◌≤◌, length};
+ghost use Rattle.std.specs.Option.{option_map};
+ghost use Rattle.sz_instr.specs.declared.code.Code.{Code};
+ghost use Rattle.sz_instr.specs.declared.instr.Instr.TheVariants as instr;
+ghost use Rattle.sz_types.specs.Rows.{arity};
+ghost use Rattle.sz_types.specs.declared.operator.Builtin.TheVariants.{Len, StrFind};
+ghost use Rattle.sz_value.specs.Data.{int};
+ghost use Rattle.sz_builtin.specs.Conversions.{number_in};
+ghost use Rattle.sz_machine.specs.Acting.{DoesIf, weighs_and_acts};
+
+use crate::run_state::RunState;
+use sz_builtin::{number_in, place_of_bytes};
+use sz_instr::Code;
+use sz_machine_cells::Cell;
+use sz_types::{Builtin, Ty};
+
+impl<'a> RunState<'a> {
+    /// Puts the length of the topmost bytes in their stead, or the place of the bytes below in them.
+    #[inline(never)]
+    pub fn apply_to_octets(&mut self, which: Builtin) -> bool
+        requires within { arity which ≤ length self.old.operands }
+        ensures value { (code : Code) → DoesIf result (weighs_and_acts code (instr.Apply which)) self.old self.new }
+    {
+        match which {
+            Builtin::Len => self.measure(),
+            Builtin::StrFind => self.search(),
+            Builtin::Keys | Builtin::HasKey => false,
+        }
+    }
+
+    // Puts the length of the topmost bytes in their stead.
+    fn measure(&mut self) -> bool
+        requires some { 0 < length self.old.operands }
+        ensures value { (code : Code) → DoesIf result (weighs_and_acts code (instr.Apply Len)) self.old self.new }
+    {
+        let Some(octets) = self.operands.top_octets() else {
+            return false;
+        };
+        let count = octets.len() as i64;
+        self.operands.put_on_top(Cell::of_int(count));
+        true
+    }
+
+    // Puts the place of bytes in the topmost ones in the stead of both.
+    fn search(&mut self) -> bool
+        requires some { 1 < length self.old.operands }
+        ensures value { (code : Code) → DoesIf result (weighs_and_acts code (instr.Apply StrFind)) self.old self.new }
+    {
+        let Some((needle, hay)) = self.operands.top_two_octets() else {
+            return false;
+        };
+        let place = place_of_bytes(needle, hay);
+        self.operands.drop_one();
+        self.operands.put_on_top(Cell::of_int(place));
+        true
+    }
+
+    /// Puts the number that the topmost bytes spell in their stead, if the type is that of whole numbers.
+    #[inline(never)]
+    pub fn read_number(&mut self, code: &Code, ty: u32) -> bool
+        requires within { ty < length code.now.types }
+        requires some { 0 < length self.old.operands }
+        ensures value { DoesIf result (weighs_and_acts code.now (instr.Convert ty)) self.old self.new }
+    {
+        let Ty::Int = code.types.get(ty as usize) else {
+            return false;
+        };
+        let Some(octets) = self.operands.top_octets() else {
+            return false;
+        };
+        let number = number_cell(octets);
+        self.operands.put_on_top(number);
+        true
+    }
+
+    /// Cuts bytes in a buffer to the part between the two topmost places, if the ticks for it are left.
+    #[inline(never)]
+    pub fn cut(&mut self) -> bool
+        requires some { 2 < length self.old.operands }
+        ensures value { (code : Code) → DoesIf result (weighs_and_acts code instr.Slice) self.old self.new }
+    {
+        let Some((from, to)) = self.operands.top_ints() else {
+            return false;
+        };
+        let Some(weight) = self.operands.cut_below(from, to, self.left) else {
+            return false;
+        };
+        self.left -= weight;
+        true
+    }
+}
+
+// The cell of the number that bytes spell, which is undefined where they spell none.
+#[inline(always)]
+fn number_cell<'a>(octets: &[u8]) -> Cell<'a>
+    ensures value { result ≡ option_map int (number_in octets.now) }
+{
+    match number_in(octets) {
+        Some(number) => Cell::of_int(number),
+        None => Cell::undefined(),
+    }
+}
