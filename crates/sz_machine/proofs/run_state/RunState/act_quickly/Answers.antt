@@ -59,3 +59,36 @@ pub returns-in-Store-clause-left : goal.returns-in-Store-clause-left
 returns-in-Store-clause-left c =
     let row = weighs_and_acts c.args.code.now (instr.Store c.in-Store.n c.in-Store.path) in
     rw c.on_if-in-Store.ensures.value (row_left row c.args.self.now c.store_int.new.self c.store_int.result (c.store_int.ensures.value c.args.code.now.ignore))
+
+pub returns-in-Apply-clause-done : goal.returns-in-Apply-clause-done
+returns-in-Apply-clause-done c =
+    let is : c.args.instr.now ≡ instr.Apply c.in-Apply.which = search rules in
+    let row = weighs_and_acts c.args.code.now (instr.Apply c.in-Apply.which) in
+    rw c.on_if-in-Apply.ensures.value (rw is (row_done row c.args.self.now c.apply_to_octets.new.self c.apply_to_octets.result c.args.at (c.apply_to_octets.ensures.value c.args.code.now)))
+
+pub returns-in-Apply-clause-left : goal.returns-in-Apply-clause-left
+returns-in-Apply-clause-left c =
+    let row = weighs_and_acts c.args.code.now (instr.Apply c.in-Apply.which) in
+    rw c.on_if-in-Apply.ensures.value (row_left row c.args.self.now c.apply_to_octets.new.self c.apply_to_octets.result (c.apply_to_octets.ensures.value c.args.code.now))
+
+pub returns-in-Convert-clause-done : goal.returns-in-Convert-clause-done
+returns-in-Convert-clause-done c =
+    let is : c.args.instr.now ≡ instr.Convert c.in-Convert.ty = search rules in
+    let row = weighs_and_acts c.args.code.now (instr.Convert c.in-Convert.ty) in
+    rw c.on_if-in-Convert.ensures.value (rw is (row_done row c.args.self.now c.read_number.new.self c.read_number.result c.args.at c.read_number.ensures.value))
+
+pub returns-in-Convert-clause-left : goal.returns-in-Convert-clause-left
+returns-in-Convert-clause-left c =
+    let row = weighs_and_acts c.args.code.now (instr.Convert c.in-Convert.ty) in
+    rw c.on_if-in-Convert.ensures.value (row_left row c.args.self.now c.read_number.new.self c.read_number.result c.read_number.ensures.value)
+
+pub returns-in-Slice-clause-done : goal.returns-in-Slice-clause-done
+returns-in-Slice-clause-done c =
+    let is : c.args.instr.now ≡ instr.Slice = search rules in
+    let row = weighs_and_acts c.args.code.now instr.Slice in
+    rw c.on_if-in-Slice.ensures.value (rw is (row_done row c.args.self.now c.cut.new.self c.cut.result c.args.at (c.cut.ensures.value c.args.code.now)))
+
+pub returns-in-Slice-clause-left : goal.returns-in-Slice-clause-left
+returns-in-Slice-clause-left c =
+    let row = weighs_and_acts c.args.code.now instr.Slice in
+    rw c.on_if-in-Slice.ensures.value (row_left row c.args.self.now c.cut.new.self c.cut.result (c.cut.ensures.value c.args.code.now))
