@@ -110,13 +110,14 @@ impl<'a> Aggregator for Sum<'a> {
         ensures value { IfOk result (λ rows. rows ≡ rows_of_sum self.now) }
         ensures within { AreWithin (2 ^ 63 * self.now.count) self.now.numbers }
     {
-        let mut rows = Rows::new(self.alloc);
         if self.count > 0 {
+            let mut rows = Rows::with_capacity(self.alloc, 1)?;
             rows.push(Row {
                 value: RowValue::Sums(Sums::copied(self.alloc, &self.sums)?),
                 weight: None,
             })?;
+            return Ok(rows);
         }
-        Ok(rows)
+        Ok(Rows::new(self.alloc))
     }
 }
