@@ -3,8 +3,8 @@ pub mod Spelling
 pub mod Laws
 pub mod Lists
 -- what the functions inside the crate promise each other
-pub mod Held
 pub mod Reading
 -- what the ghost members of types rest on
 pub mod Kept
+pub mod Held
 pub mod OneSpelling

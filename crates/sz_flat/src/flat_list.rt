@@ -15,7 +15,7 @@ use std::marker::Model;
 use sz_value::List;
 
 /// A list of values, kept as the bytes that spell them, one after the other. Two lists are equal exactly where their bytes are, so it
-/// is compared and hashed by its bytes.
+/// is compared and hashed by its bytes. A table keeps one for each of its index lists, so a copy has few bytes in place.
 ///
 /// Contracts see the list of the values as plain data.
 pub struct FlatList {
@@ -61,7 +61,7 @@ impl FlatList {
         self.bytes.spell(values)
     }
 
-    /// The same values once more, with room for no others.
+    /// The same values once more, with room for no others. Where few bytes spell them it takes no memory.
     pub fn copied(&self, alloc: Global) -> Result<FlatList, NoMemory>
         ensures value { IfOk result (λ list. list ≡ self.now) }
     {
