@@ -47,7 +47,7 @@ fn copied(alloc: Global, kept: &[(i64, Value)]) -> Result<Vec<(i64, Value)>, NoM
 fn row_by_row(alloc: Global, kind: TableKind, ranked: Vec<(i64, Value)>) -> Result<Rows, NoMemory>
     ensures value { IfOk result (λ rows. rows ≡ map weighted_row (map (emit_of kind) (map seen_rank ranked.items))) }
 {
-    let mut rows = Rows::new(alloc);
+    let mut rows = Rows::with_capacity(alloc, ranked.len())?;
     for (rank, value) in ranked {
         rows.push(Row {
             value: RowValue::One(value),

@@ -2,25 +2,25 @@
 ghost use Rattle.std.specs.Prelude.{◌≡◌, ◌==◌, [], length, IfOk, OnOk, OnErr};
 ghost use Rattle.sz_value.specs.Data.{data_of};
 ghost use Rattle.sz_flat.specs.Spelling.{HaveShortLengths};
-ghost use Rattle.sz_flat.specs.Lists.{Spelled, SpellsAll, same_values, list_writes};
+ghost use Rattle.sz_flat.specs.Lists.{Spelled, same_values, list_writes};
 ghost use Rattle.sz_flat.specs.Kept.{spelled_prop, same_values_per, same_values_equiv, same_values_hash_alike};
 
 use crate::NoMemory;
 use crate::error::FlatError;
+use crate::kept_bytes::KeptBytes;
 use crate::reading::read_all;
-use crate::writing::spell_parts;
 use std::alloc::{AllocError, Global};
 use std::hash::{Hash, Hasher};
 use std::marker::Model;
 use sz_value::List;
 
 /// A list of values, kept as the bytes that spell them, one after the other. Two lists are equal exactly where their bytes are, so it
-/// is compared and hashed by its bytes.
+/// is compared and hashed by its bytes. A table keeps one for each of its index lists, so a copy has few bytes in place.
 ///
 /// Contracts see the list of the values as plain data.
 pub struct FlatList {
-    bytes: Vec<u8>,
-    ghost spelled: { Spelled bytes.items } by { spelled_prop bytes.items },
+    bytes: KeptBytes,
+    ghost spelled: { Spelled bytes } by { spelled_prop bytes },
 }
 
 impl Drop for FlatList {
@@ -47,7 +47,7 @@ impl FlatList {
         ensures value { result ≡ [] }
     {
         FlatList {
-            bytes: Vec::new(alloc),
+            bytes: KeptBytes::new(alloc),
         }
     }
 
@@ -58,14 +58,14 @@ impl FlatList {
         ensures ok { OnOk result (self.new ≡ values.now) }
         ensures err { OnErr result (self.new ≡ []) }
     {
-        spell_anew(values, &mut self.bytes)
+        self.bytes.spell(values)
     }
 
-    /// The same values once more, with room for no others.
+    /// The same values once more, with room for no others. Where few bytes spell them it takes no memory.
     pub fn copied(&self, alloc: Global) -> Result<FlatList, NoMemory>
         ensures value { IfOk result (λ list. list ≡ self.now) }
     {
-        let bytes = Vec::from_slice(alloc, self.bytes.as_slice())?;
+        let bytes = KeptBytes::copied(alloc, self.bytes.as_slice())?;
         Ok(FlatList { bytes })
     }
 
@@ -84,23 +84,7 @@ impl FlatList {
     pub fn is_empty(&self) -> bool
         ensures value { result ≡ (length self.now == 0) }
     {
-        self.bytes.is_empty()
-    }
-}
-
-// Spells the values in the stead of what the bytes were; where there is no memory, there are no bytes.
-fn spell_anew(values: &List, bytes: &mut Vec<u8>) -> Result<(), NoMemory>
-    requires short { HaveShortLengths (data_of values.now) }
-    ensures ok { OnOk result (SpellsAll bytes.new.items values.now) }
-    ensures err { OnErr result (bytes.new.items ≡ []) }
-{
-    bytes.clear();
-    match spell_parts(values.as_slice(), bytes) {
-        Ok(()) => Ok(()),
-        Err(error) => {
-            bytes.clear();
-            Err(error)
-        }
+        self.bytes.as_slice().is_empty()
     }
 }
 

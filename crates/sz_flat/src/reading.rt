@@ -29,7 +29,8 @@ pub(crate) fn read_all(alloc: Global, flat: &[u8]) -> Result<List, FlatError>
     ensures value { IfOk result (λ list. SpellsAll flat.now list) }
     ensures not_flat { IsErrOf result errors.NotFlat → SpellNone flat.now }
 {
-    let mut values = Vec::new(alloc);
+    // A list of one value takes room for no others.
+    let mut values = Vec::with_capacity(alloc, flat.len().min(1))?;
     let mut rest = flat;
     while !rest.is_empty() {
         let (value, after) = read_value(alloc, rest)?;

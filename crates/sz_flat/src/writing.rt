@@ -1,10 +1,11 @@
 //! The bytes that spell a value.
-ghost use Rattle.std.specs.Prelude.{◌≡◌, ◌∷◌, ◌++◌, length, map, All, IfOk, OnOk};
+ghost use Rattle.std.specs.Prelude.{◌≡◌, ◌∷◌, ◌++◌, length, map, [], All, IfOk, OnOk, OnErr};
 ghost use Rattle.sz_value.specs.Data as facts;
 ghost use Rattle.sz_value.specs.Data.{data_of, entries_of};
 ghost use Rattle.sz_value.specs.Order.{KeysRise};
 ghost use Rattle.sz_value.specs.Seen.{seen, seen_pairs};
 ghost use Rattle.sz_flat.specs.Spelling.{Spells, spelling, spelled_parts, spelled_pairs, length_bytes, number_bytes, counted_bytes, IsShort, HasShortLengths, HaveShortLengths, PairsHaveShortLengths, HaveSpellings, PairsHaveSpellings};
+ghost use Rattle.sz_flat.specs.Lists.{SpellsAll};
 ghost use Rattle.sz_flat.specs.Reading.{Adds, values, pair, all_of};
 
 use crate::NoMemory;
@@ -20,6 +21,22 @@ pub fn to_flat(alloc: Global, value: &Value) -> Result<Octets, NoMemory>
     let mut out = Vec::new(alloc);
     spell(value, &mut out)?;
     Ok(Octets::from_vec(out))
+}
+
+// Spells the values in the stead of what the bytes were; where there is no memory, there are no bytes.
+pub(crate) fn spell_anew(values: &List, bytes: &mut Vec<u8>) -> Result<(), NoMemory>
+    requires short { HaveShortLengths (data_of values.now) }
+    ensures ok { OnOk result (SpellsAll bytes.new.items values.now) }
+    ensures err { OnErr result (bytes.new.items ≡ []) }
+{
+    bytes.clear();
+    match spell_parts(values.as_slice(), bytes) {
+        Ok(()) => Ok(()),
+        Err(error) => {
+            bytes.clear();
+            Err(error)
+        }
+    }
 }
 
 // Appends the spelling of the value.

@@ -32,7 +32,7 @@ pub(crate) fn rows_of(alloc: Global, table: &TableDecl, tally: &Tally) -> Result
 fn overflow_rows(alloc: Global) -> Result<Rows, NoMemory>
     ensures value { IfOk result (λ rows. rows ≡ overflow_row ∷ []) }
 {
-    let mut rows = Rows::new(alloc);
+    let mut rows = Rows::with_capacity(alloc, 1)?;
     rows.push(Row {
         value: RowValue::Overflow,
         weight: None,
@@ -44,7 +44,7 @@ fn overflow_rows(alloc: Global) -> Result<Rows, NoMemory>
 fn row_by_row(alloc: Global, values: Vec<&Value>) -> Result<Rows, NoMemory>
     ensures value { IfOk result (λ rows. rows ≡ map value_row (map seen_ref values.entry.items)) }
 {
-    let mut rows = Rows::new(alloc);
+    let mut rows = Rows::with_capacity(alloc, values.len())?;
     for value in values {
         let value = copy(alloc, value)?;
         rows.push(Row {

@@ -2,6 +2,8 @@
 #![tactic(auto)]
 
 mod adding;
+mod held;
+mod numbers;
 mod sum;
 
 pub use sum::Sum;

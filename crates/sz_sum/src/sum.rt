@@ -6,7 +6,8 @@ ghost use Rattle.sz_tabs.specs.Aggregating.{IsNew, Joins};
 ghost use Rattle.sz_tabs.specs.Bounds.{AreWithin};
 ghost use Rattle.sz_sum.specs.Data.{rows_of_sum};
 
-use crate::adding::{add_sums, add_value, width_of, zeros};
+use crate::adding::{add_sums, add_value, width_of};
+use crate::numbers::Numbers;
 use std::alloc::Global;
 use std::marker::Model;
 use sz_tabs::{Aggregator, NoMemory, Row, RowValue, Rows, Sums};
@@ -16,13 +17,14 @@ use sz_value::Value;
 /// The exact sum of the values that are emitted to one table under one index list, by component: one number for a table of
 /// `int`, and one for each part for a table of tuples. It borrows the declaration, so many sums of one table share it.
 ///
-/// Contracts see the declaration, the number of emits and the sums. Only a new sum takes memory: no emit does, nor a merge.
+/// Contracts see the declaration, the number of emits and the sums. Only a new sum of a table of tuples takes memory, since a single
+/// number is kept in place: no emit does, nor a merge.
 #[derive(Debug)]
 pub struct Sum<'a> {
     alloc: Global,
     table: &'a TableDecl,
     count: u64,
-    sums: Vec<i128>,
+    sums: Numbers,
 }
 
 impl<'a> Drop for Sum<'a> {
@@ -47,9 +49,9 @@ impl<'a> Model for Sum<'a> {
     ghost use Rattle.sz_types.specs.SeenTables.{seen_table};
     ghost use Rattle.sz_sum.specs.Kept.{IsKept};
 
-    ghost view = { λ s. record { table = seen_table s.table.now; count = s.count; numbers = s.sums.items } };
+    ghost view = { λ s. record { table = seen_table s.table.now; count = s.count; numbers = s.sums } };
 
-    ghost invariant = { λ s. IsKept (seen_table s.table.now) s.count s.sums.items };
+    ghost invariant = { λ s. IsKept (seen_table s.table.now) s.count s.sums };
 }
 
 impl<'a> Sum<'a> {
@@ -59,7 +61,7 @@ impl<'a> Sum<'a> {
         ensures empty { IfOk result (IsNew ⟦<Sum<'a> as Aggregator>⟧.declaration ⟦<Sum<'a> as Aggregator>⟧.count
             ⟦<Sum<'a> as Aggregator>⟧.shown (seen_table table.now)) }
     {
-        let sums = zeros(alloc, width_of(&table.element))?;
+        let sums = Numbers::zeros(alloc, width_of(&table.element))?;
         Ok(Sum {
             alloc,
             table,
@@ -100,7 +102,7 @@ impl<'a> Aggregator for Sum<'a> {
         ensures err { IfErr result (λ back. (back ≡ other.entry) × (self.new ≡ self.old)) }
         ensures always { IsOk result }
     {
-        add_sums(&mut self.sums, &other.sums);
+        add_sums(&mut self.sums, other.sums.as_slice());
         self.count += other.count;
         Ok(())
     }
@@ -110,13 +112,14 @@ impl<'a> Aggregator for Sum<'a> {
         ensures value { IfOk result (λ rows. rows ≡ rows_of_sum self.now) }
         ensures within { AreWithin (2 ^ 63 * self.now.count) self.now.numbers }
     {
-        let mut rows = Rows::new(self.alloc);
         if self.count > 0 {
+            let mut rows = Rows::with_capacity(self.alloc, 1)?;
             rows.push(Row {
-                value: RowValue::Sums(Sums::copied(self.alloc, &self.sums)?),
+                value: RowValue::Sums(Sums::copied(self.alloc, self.sums.as_slice())?),
                 weight: None,
             })?;
+            return Ok(rows);
         }
-        Ok(rows)
+        Ok(Rows::new(self.alloc))
     }
 }

@@ -14,7 +14,7 @@ use Rattle.sz_flat.proofs.reading.read_all.Goals as goal
 pub loop-rest-init : goal.loop-rest-init
 loop-rest-init c = (
   0,
-  subst (λ done. Stands (all_of values 0) c.args.flat.now (map seen done) c.args.flat.now) (sym c.new-values.ensures.items)
+  subst (λ done. Stands (all_of values 0) c.args.flat.now (map seen done) c.args.flat.now) (sym c.in_ok-values.ensures.items)
       (none_stand values c.args.flat.now),
 )
 
@@ -40,7 +40,7 @@ loop-rest-smaller c =
 
 pub returns-in_err-value-clause-not_flat : goal.returns-in_err-value-clause-not_flat
 returns-in_err-value-clause-not_flat c = λ is.
-    let p = err_from_is_err_and c.from_residual.result c.from_residual.ensures.1 in
+    let p = err_from_is_err_and c.from_residual-in_err-value.result c.from_residual-in_err-value.ensures.1 in
     none_read c.args.flat.now c.loop-rest.rest.now (map seen c.loop-rest.values.items) c.in_err-value.field-0.0 c.loop-rest.invariant
     (some_left c.loop-rest.rest.now (sym c.is_empty.ensures ∙ c.loop-rest-test.true)) c.in_err-value.ensures.value
     (let both = sym p.1 ∙ is in let e = p.2 in cc)

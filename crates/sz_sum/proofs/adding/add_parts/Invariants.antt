@@ -3,4 +3,4 @@ use Rattle.sz_tabs.proofs.AddingLemmas.{IsAdded}
 use Rattle.sz_sum.proofs.adding.add_parts.Given as goal
 
 abbrev pub invariant-loop-at : goal.invariant-loop-at
-invariant-loop-at l = IsAdded l.initial.sums.items l.sums.items l.parts l.at
+invariant-loop-at l = IsAdded l.initial.sums l.sums l.parts l.at

@@ -6,5 +6,5 @@ use Rattle.sz_sum.proofs.sum.Sum.new.Goals as goal
 
 pub invariant_of-result : goal.invariant_of-result
 invariant_of-result c =
-    kept_new (seen_table c.args.table.now) c.in_ok-sums.sums.items c.requires.kind
+    kept_new (seen_table c.args.table.now) c.in_ok-sums.sums c.requires.kind
     (c.in_ok-sums.ensures.value ∙ ap (λ n. replicate n (pos 0)) c.width_of.ensures.value)

@@ -3,7 +3,7 @@ use Rattle.std.proofs.Common.{◌≡◌, ◌∙◌, ◌+◌, ◌^◌, ◌<◌, �
 use Rattle.sz_tabs.specs.Bounds.{IsWithin}
 use Rattle.sz_tabs.proofs.ForCallers.{passed, within_there, added_there}
 use Rattle.sz_sum.proofs.GrownLemmas.{added_within_at}
-use Rattle.sz_sum.proofs.adding.add_at.Goals as goal
+use Rattle.sz_sum.proofs.numbers.add_in.Goals as goal
 
 pub more-requires : goal.more-requires
 more-requires c =

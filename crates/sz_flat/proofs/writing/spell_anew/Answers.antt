@@ -3,7 +3,7 @@ use Rattle.std.proofs.Common.{length, map}
 use Rattle.sz_value.specs.Seen.{seen}
 use Rattle.sz_flat.proofs.ListLemmas.{all_spelled}
 use Rattle.sz_flat.proofs.WritingLemmas.{short_parts}
-use Rattle.sz_flat.proofs.flat_list.spell_anew.Goals as goal
+use Rattle.sz_flat.proofs.writing.spell_anew.Goals as goal
 
 pub spell_parts-requires : goal.spell_parts-requires
 spell_parts-requires c = record { short = short_parts c.as_slice.result.now c.args.values.now c.as_slice.ensures.value c.requires.short }

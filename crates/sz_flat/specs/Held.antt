@@ -1,0 +1,9 @@
+-- How bytes are kept.
+use Rattle.std.specs.Prelude.{ℕ, List}
+use Rattle.sz_flat.specs.declared.held.Held.{Held}
+use Rattle.sz_flat.specs.declared.held.Held.TheVariants.{Short, Long}
+
+-- the bytes, in place or in a block of their own
+abbrev pub bytes_of : Held → List ℕ
+bytes_of (Short bytes) = bytes
+bytes_of (Long bytes) = bytes.items

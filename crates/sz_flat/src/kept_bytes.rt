@@ -1,0 +1,89 @@
+//! Bytes that are kept in place where they are few.
+ghost use Rattle.std.specs.Prelude.{◌≡◌, [], IfOk, OnOk, OnErr};
+ghost use Rattle.sz_value.specs.Data.{data_of};
+ghost use Rattle.sz_flat.specs.Spelling.{HaveShortLengths};
+ghost use Rattle.sz_flat.specs.Lists.{SpellsAll};
+
+use crate::NoMemory;
+use crate::held::Held;
+use crate::short_bytes::{MOST, ShortBytes};
+use crate::writing::spell_anew;
+use std::alloc::Global;
+use std::marker::Model;
+use sz_value::List;
+
+// The bytes of a list of values. A copy keeps few bytes in place, and takes memory only for more: most keys of tables are short, and a
+// table may have a million of them. What values were spelled into has a block, since it keeps its room for the next ones.
+//
+// Contracts see the list of the bytes.
+pub(crate) struct KeptBytes {
+    alloc: Global,
+    held: Held,
+}
+
+impl Drop for KeptBytes {
+    fn drop(self) {
+        let KeptBytes { alloc: _, held: _ } = self;
+    }
+}
+
+impl Model for KeptBytes {
+    ghost use Rattle.std.specs.Prelude.{ℕ, List};
+    ghost use Rattle.sz_flat.specs.Held.{bytes_of};
+
+    ghost Value = { List ℕ };
+
+    ghost view = { λ kept. bytes_of kept.held };
+}
+
+impl KeptBytes {
+    // No bytes, which take no memory.
+    pub(crate) fn new(alloc: Global) -> KeptBytes
+        ensures value { result ≡ [] }
+    {
+        KeptBytes {
+            alloc,
+            held: Held::Long(Vec::new(alloc)),
+        }
+    }
+
+    // A copy of the bytes, with room for no others.
+    pub(crate) fn copied(alloc: Global, bytes: &[u8]) -> Result<KeptBytes, NoMemory>
+        ensures value { IfOk result (λ kept. kept ≡ bytes.now) }
+    {
+        let held = if bytes.len() <= MOST {
+            Held::Short(ShortBytes::copied(bytes))
+        } else {
+            Held::Long(Vec::from_slice(alloc, bytes)?)
+        };
+        Ok(KeptBytes { alloc, held })
+    }
+
+    // The bytes.
+    pub(crate) fn as_slice(&self) -> &[u8]
+        ensures value { result.now ≡ self.now }
+    {
+        match &self.held {
+            Held::Short(bytes) => bytes.as_slice(),
+            Held::Long(bytes) => bytes.as_slice(),
+        }
+    }
+
+    // Spells the values in the stead of its own bytes, into the room that it keeps for the next ones. Where there is no memory, there
+    // are no bytes.
+    pub(crate) fn spell(&mut self, values: &List) -> Result<(), NoMemory>
+        requires short { HaveShortLengths (data_of values.now) }
+        ensures ok { OnOk result (SpellsAll self.new values.now) }
+        ensures err { OnErr result (self.new ≡ []) }
+    {
+        match &mut self.held {
+            Held::Long(bytes) => spell_anew(values, bytes),
+            Held::Short(_) => {
+                let mut bytes = Vec::new(self.alloc);
+                let spelled = spell_anew(values, &mut bytes);
+                self.held = Held::Long(bytes);
+                spelled
+            }
+        }
+    }
+}
