@@ -7,11 +7,12 @@ ghost use Rattle.sz_machine_rules.specs.States.{popped};
 ghost use Rattle.sz_machine_cells.specs.Calls.{is_used_up, after_next, caller};
 
 use crate::candidates::Candidates;
-use crate::cell::Cell;
+use crate::cell::{Cell, Form};
 use crate::operands::Operands;
 use std::alloc::Global;
 use std::marker::Model;
 use std::mem;
+use std::rc::Rc;
 use sz_value::NoMemory;
 
 /// A routine that waits: where its locals and its candidate lists begin, and the place where it goes on.
@@ -191,11 +192,21 @@ impl<'a> Calls<'a> {
         }
     }
 
-    /// No candidate list of the routine that runs shares a map with a local from then on, so that one can be changed in place.
-    pub fn set_apart(&mut self, alloc: Global) -> Result<(), NoMemory>
+    /// Where another cell shares the value of a local, no candidate list of the routine that runs shares a map from then on: so the value
+    /// may be changed in place.
+    #[inline(never)]
+    pub fn set_apart(&mut self, alloc: Global, n: u32) -> Result<(), NoMemory>
+        requires within { n < length self.old.locals }
         ensures value { self.new ≡ self.old }
     {
-        apart_from(alloc, &mut self.lists, self.lists_from)
+        let is_shared = match &self.local(n).form {
+            Form::Shared(shared) => Rc::strong_count(shared) > 1,
+            _ => false,
+        };
+        if is_shared {
+            apart_from(alloc, &mut self.lists, self.lists_from)?;
+        }
+        Ok(())
     }
 
     /// Enters a routine with so many topmost operands as its first locals: the one that runs waits, and goes on at `back`.
