@@ -174,7 +174,7 @@ impl<'a> RunState<'a> {
             Instr::Call(function) => self.call(code.functions.get(*function as usize), at),
             Instr::Return => Ok(self.give_back()),
             Instr::Discard => self.discard(alloc, code, place),
-            Instr::Enter(slice) => self.enter_search(alloc, *slice),
+            Instr::Enter(slice) => self.enter_search(*slice),
             Instr::Next(n, to) => self.next_candidate(alloc, *n, *to),
             Instr::Leave => Ok(self.leave_search()),
             Instr::Meets(to) => Ok(self.meets(*to)),

@@ -161,12 +161,12 @@ impl<'a> RunState<'a> {
 
     /// Pops a base and adds the list of its candidates.
     #[inline(never)]
-    pub fn enter_search(&mut self, alloc: Global, slice: bool) -> Result<Next, NoMemory>
+    pub fn enter_search(&mut self, slice: bool) -> Result<Next, NoMemory>
         requires some { 0 < length self.old.operands }
         ensures value { (code : Code) → IfOk result (λ next. Does (act code (instr.Enter slice)) self.old next self.new) }
     {
         let base = self.operands.pop();
-        let list = Candidates::of(alloc, slice, &base)?;
+        let list = Candidates::of(slice, &base)?;
         self.calls.add_list(list)?;
         Ok(Next::On)
     }

@@ -114,6 +114,7 @@ impl<'a> RunState<'a> {
         let Some(new) = new.into_value(alloc)? else {
             return Ok(if_passed(self.pass(alloc, code, place)?, Next::On));
         };
+        self.calls.set_apart(alloc, n)?;
         self.store_at(alloc, n, path, &indexes, new)
     }
 

@@ -1,6 +1,13 @@
--- Candidates that are numbers.
-use Rattle.std.proofs.Common.{◌≡◌, ℕ, zero, suc, ◌+◌, ◌-◌, ◌<◌, pos, List, ◌∷◌, length, Bool, true, false, Some, ap, arith}
+-- Candidates that are numbers, or the keys of a map from a place on.
+use Rattle.std.proofs.Common.{◌≡◌, ◌∙◌, ◌==◌, ℕ, zero, suc, ◌+◌, ◌-◌, ◌<◌, ◌≤◌, nat_le, pos, List, [], ◌∷◌, length, take, drop, Bool, true, false, Some, None, unwrap_or, refl, sym, ap, arith}
+use Rattle.std.specs.Prelude.{slice_get, option_map}
+use Rattle.std.specs.Map.{keys_of}
+use Rattle.std.proofs.lemmas.List.{take_rest}
+use Rattle.std.proofs.Math.Dec.{leb-zero, leb-suc-zero, leb-suc-suc, eqb-suc-zero}
 use Rattle.sz_value.specs.Data.{Datum, int, array, data_of}
+use Rattle.sz_value.specs.Seen.{seen, seen_pairs}
+use Rattle.sz_value.specs.declared.value.Value.{Value}
+use Rattle.sz_value.specs.declared.value.Pair.{Pair}
 use Rattle.sz_world_rules.specs.Candidates.{candidates, numbers_from}
 use Rattle.sz_machine_cells.specs.Candidates.{numbers_of}
 use Rattle.sz_builtin.proofs.Parts.{parts_back}
@@ -17,3 +24,53 @@ number_next first (suc n) h =
     let further : suc first ≡ first + 1 = omega arith in
     let fewer : n ≡ suc n - 1 = omega arith in
     λ i. int (pos first) ∷ numbers_from (further i) (fewer i)
+
+-- the key at a place, and those after it
+pub key_after : (ks : List Datum) (n : ℕ) (v : Value) → Some (seen v) ≡ slice_get ks n → drop n ks ≡ seen v ∷ drop (n + 1) ks
+key_after [] n v e = absurd (cc)
+key_after (k ∷ ks) zero v e = ap (λ o. unwrap_or o k ∷ ks) (sym e)
+key_after (k ∷ ks) (suc n) v e =
+    let later : suc n + 1 ≡ suc (n + 1) = omega arith in
+    key_after ks n v e ∙ ap (λ m. seen v ∷ drop m (k ∷ ks)) (sym later)
+
+-- where there is no key at a place, there is none after it
+pub no_key_after : (ks : List Datum) (n : ℕ) → None ≡ slice_get ks n → drop n ks ≡ []
+no_key_after [] zero e = refl
+no_key_after [] (suc n) e = refl
+no_key_after (k ∷ ks) zero e = absurd (cc)
+no_key_after (k ∷ ks) (suc n) e = no_key_after ks n e
+
+-- no key is left at a place just where it is after them all
+pub none_after : (ks : List Datum) (n : ℕ) → nat_le (length ks) n ≡ (length (drop n ks) == 0)
+none_after [] zero = refl
+none_after [] (suc n) = leb-zero (suc n)
+none_after (k ∷ ks) zero = leb-suc-zero (length ks) ∙ sym (eqb-suc-zero (length ks))
+none_after (k ∷ ks) (suc n) = leb-suc-suc (length ks) n ∙ none_after ks n
+
+-- the keys of the pairs from a place on
+pub keys_dropped : (ps : List Pair) (n : ℕ) → keys_of (seen_pairs (take (length ps - n) (drop n ps))) ≡ drop n (keys_of (seen_pairs ps))
+keys_dropped ps n = ap (λ qs. keys_of (seen_pairs qs)) (take_rest ps n) ∙ dropped ps n
+  where
+    dropped : (qs : List Pair) (m : ℕ) → keys_of (seen_pairs (drop m qs)) ≡ drop m (keys_of (seen_pairs qs))
+    dropped [] zero = refl
+    dropped [] (suc m) = refl
+    dropped (q ∷ qs) zero = refl
+    dropped (q ∷ qs) (suc m) = dropped qs m
+
+-- a map has as many keys as pairs
+pub keys_count : (ps : List Pair) → length (keys_of (seen_pairs ps)) ≡ length ps
+keys_count [] = refl
+keys_count (p ∷ ps) = ap suc (keys_count ps)
+
+-- no keys are left after all pairs
+pub none_behind : (ps : List Pair) (n : ℕ) → length ps ≤ n → drop n (keys_of (seen_pairs ps)) ≡ []
+none_behind [] zero h = refl
+none_behind [] (suc n) h = refl
+none_behind (p ∷ ps) zero h = absurd (omega (arith, h))
+none_behind (p ∷ ps) (suc n) h = none_behind ps n (omega (arith, h))
+
+-- the key at a place is that of the pair there
+pub key_nth : (ps : List (Datum × Datum)) (n : ℕ) → option_map (λ p. p.0) (slice_get ps n) ≡ slice_get (keys_of ps) n
+key_nth [] n = refl
+key_nth (p ∷ ps) zero = refl
+key_nth (p ∷ ps) (suc n) = key_nth ps n

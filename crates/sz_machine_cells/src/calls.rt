@@ -7,11 +7,12 @@ ghost use Rattle.sz_machine_rules.specs.States.{popped};
 ghost use Rattle.sz_machine_cells.specs.Calls.{is_used_up, after_next, caller};
 
 use crate::candidates::Candidates;
-use crate::cell::Cell;
+use crate::cell::{Cell, Form};
 use crate::operands::Operands;
 use std::alloc::Global;
 use std::marker::Model;
 use std::mem;
+use std::rc::Rc;
 use sz_value::NoMemory;
 
 /// A routine that waits: where its locals and its candidate lists begin, and the place where it goes on.
@@ -27,7 +28,7 @@ pub struct Waiting {
 /// Contracts see those of the routine that runs, the innermost candidate list first, and the routines that wait.
 pub struct Calls<'a> {
     cells: Vec<Cell<'a>>,
-    lists: Vec<Candidates>,
+    lists: Vec<Candidates<'a>>,
     waiting: Vec<Waiting>,
     locals_from: usize,
     lists_from: usize,
@@ -145,8 +146,8 @@ impl<'a> Calls<'a> {
     }
 
     /// Adds a candidate list.
-    pub fn add_list(&mut self, list: Candidates) -> Result<(), NoMemory>
-        ensures value { OnOk result (self.new ≡ record self.old { lists = list ∷ self.old.lists }) }
+    pub fn add_list(&mut self, list: Candidates<'a>) -> Result<(), NoMemory>
+        ensures value { OnOk result (self.new ≡ record self.old { lists = list.entry ∷ self.old.lists }) }
         ensures err { OnErr result (self.new ≡ self.old) }
     {
         self.lists.push(list)?;
@@ -178,7 +179,7 @@ impl<'a> Calls<'a> {
         ensures found { IfOk result (λ found. found ≡ not (is_used_up self.old.lists)) }
     {
         let last = self.lists.len() - 1;
-        match self.lists[last].next() {
+        match self.lists[last].next(alloc)? {
             Some(value) => {
                 let cell = Cell::of_value(alloc, value)?;
                 self.keep(n, cell);
@@ -189,6 +190,23 @@ impl<'a> Calls<'a> {
                 Ok(false)
             }
         }
+    }
+
+    /// Where another cell shares the value of a local, no candidate list of the routine that runs shares a map from then on: so the value
+    /// may be changed in place.
+    #[inline(never)]
+    pub fn set_apart(&mut self, alloc: Global, n: u32) -> Result<(), NoMemory>
+        requires within { n < length self.old.locals }
+        ensures value { self.new ≡ self.old }
+    {
+        let is_shared = match &self.local(n).form {
+            Form::Shared(shared) => Rc::strong_count(shared) > 1,
+            _ => false,
+        };
+        if is_shared {
+            apart_from(alloc, &mut self.lists, self.lists_from)?;
+        }
+        Ok(())
     }
 
     /// Enters a routine with so many topmost operands as its first locals: the one that runs waits, and goes on at `back`.
@@ -243,6 +261,20 @@ fn fill<'a>(cells: &mut Vec<Cell<'a>>, count: u32) -> Result<(), NoMemory>
 {
     for _ in 0..count {
         cells.push(Cell::undefined())?;
+    }
+    Ok(())
+}
+
+// Sets the candidate lists from a place on apart.
+fn apart_from<'a>(
+    alloc: Global,
+    lists: &mut Vec<Candidates<'a>>,
+    from: usize,
+) -> Result<(), NoMemory>
+    ensures value { lists.new.items ≡ lists.old.items }
+{
+    for n in from..lists.len() {
+        lists[n].set_apart(alloc)?;
     }
     Ok(())
 }

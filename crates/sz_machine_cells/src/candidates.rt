@@ -1,25 +1,26 @@
 //! Candidate lists of quantified variables.
-ghost use Rattle.std.specs.Prelude.{◌≡◌, ◌∷◌, [], ◌<◌, ◌^◌, ◌==◌, length, map, chars, IfOk, IfSome, IfNone, Some};
-ghost use Rattle.std.specs.Map.{keys_of};
-ghost use Rattle.sz_value.specs.Seen.{seen, seen_pairs};
+ghost use Rattle.std.specs.Prelude.{◌≡◌, ◌∷◌, [], ◌<◌, ◌^◌, ◌==◌, length, chars, IfOk, IfSome, IfNone, OnErr, Some};
+ghost use Rattle.sz_value.specs.Seen.{seen};
 ghost use Rattle.sz_builtin.specs.Views.{seen_view};
 ghost use Rattle.sz_world_rules.specs.Candidates.{candidates};
 ghost use Rattle.sz_machine_cells.specs.Candidates.{numbers_of};
 
 use crate::cell::Cell;
+use crate::held::Held;
 use std::alloc::Global;
 use std::marker::Model;
 use sz_builtin::{Kind, View};
-use sz_value::{List, NoMemory, Pair, Text, Value, copy};
+use sz_value::{List, NoMemory, Text, Value};
 
-/// The candidates that are left: whole numbers up to a bound, or keys, the next one last.
+/// The candidates that are left: whole numbers up to a bound, or keys. A map whose keys they are is shared as it was at the start, and
+/// a key is copied when it is asked for.
 ///
 /// Contracts see the list of them, the next one first.
-pub struct Candidates {
-    left: Left,
+pub struct Candidates<'a> {
+    left: Left<'a>,
 }
 
-impl Drop for Candidates {
+impl<'a> Drop for Candidates<'a> {
     fn drop(self) {
         let Candidates { left: _ } = self;
     }
@@ -27,13 +28,15 @@ impl Drop for Candidates {
 
 /// What is left of the candidates, by what they are.
 #[derive(Drop)]
-pub enum Left {
+pub enum Left<'a> {
     // The next number, and how many are left.
     Numbers(u64, u64),
+    Held(Held<'a>),
+    // Keys, the next one last.
     Keys(Vec<Value>),
 }
 
-impl Model for Candidates {
+impl<'a> Model for Candidates<'a> {
     ghost use Rattle.std.specs.Prelude.{List};
     ghost use Rattle.sz_value.specs.Data.{Datum};
     ghost use Rattle.sz_value.specs.Code.{parts_code};
@@ -49,33 +52,36 @@ impl Model for Candidates {
     ghost invariant = { λ c. AreNumbers c.left };
 }
 
-impl Candidates {
+impl<'a> Candidates<'a> {
     /// The candidates that a base gives: for a bound of a slice where `slice` is true, else for an index or a key.
-    pub fn of(alloc: Global, slice: bool, base: &Cell<'_>) -> Result<Candidates, NoMemory>
+    pub fn of(slice: bool, base: &Cell<'a>) -> Result<Candidates<'a>, NoMemory>
         ensures value { IfOk result (λ made. made ≡ candidates slice base.now) }
     {
         match base.view() {
-            Some(view) => Candidates::of_view(alloc, slice, &view),
+            Some(view) => Candidates::of_view(slice, base, &view),
             None => Ok(Candidates::none()),
         }
     }
 
-    // The candidates that a value gives.
-    #[tactic(auto, using(crate::proofs::CandidateLemmas::of_array, sz_builtin::proofs::Parts::pairs_back))]
-    fn of_view(alloc: Global, slice: bool, base: &View<'_>) -> Result<Candidates, NoMemory>
-        ensures value { IfOk result (λ made. made ≡ candidates slice (Some (seen_view base.now))) }
+    // The candidates that a base gives, with the value that it is.
+    #[tactic(auto, using(crate::proofs::CandidateLemmas::of_array))]
+    fn of_view(slice: bool, base: &Cell<'a>, view: &View<'_>) -> Result<Candidates<'a>, NoMemory>
+        requires same { base.now ≡ Some (seen_view view.now) }
+        ensures value { IfOk result (λ made. made ≡ candidates slice base.now) }
     {
-        match base.kind() {
+        match view.kind() {
             Kind::Array(list) => Ok(numbers(slice, list_len(list))),
             Kind::Str(text) => Ok(numbers(slice, characters(text))),
             Kind::Bytes(contents) => Ok(numbers(slice, contents.len())),
-            Kind::Map(pairs) if !slice => keys(alloc, pairs.as_slice()),
+            Kind::Map(_) if !slice => Ok(Candidates {
+                left: Left::Held(Held::of(base)?),
+            }),
             _ => Ok(Candidates::none()),
         }
     }
 
     // No candidates.
-    fn none() -> Candidates
+    fn none() -> Candidates<'a>
         ensures value { result ≡ [] }
     {
         Candidates {
@@ -89,33 +95,49 @@ impl Candidates {
     {
         match &self.left {
             Left::Numbers(_, count) => *count == 0,
+            Left::Held(held) => held.is_empty(),
             Left::Keys(keys) => keys.is_empty(),
         }
     }
 
     /// The next candidate, if one is left.
     #[tactic(auto, using(crate::proofs::ListLemmas::key_next, crate::proofs::CandidateLemmas::number_next))]
-    pub fn next(&mut self) -> Option<Value>
-        ensures some { IfSome result (λ value. self.old ≡ seen value ∷ self.new) }
-        ensures none { IfNone result ((self.old ≡ []) × (self.new ≡ [])) }
+    pub fn next(&mut self, alloc: Global) -> Result<Option<Value>, NoMemory>
+        ensures some { IfOk result (λ found. IfSome found (λ value. self.old ≡ seen value ∷ self.new)) }
+        ensures none { IfOk result (λ found. IfNone found ((self.old ≡ []) × (self.new ≡ []))) }
+        ensures err { OnErr result (self.new ≡ self.old) }
     {
         match &mut self.left {
             Left::Numbers(next, count) => {
                 if *count == 0 {
-                    return None;
+                    return Ok(None);
                 }
                 let number = *next;
                 *next += 1;
                 *count -= 1;
-                Some(Value::Int(number as i64))
+                Ok(Some(Value::Int(number as i64)))
             }
-            Left::Keys(keys) => keys.pop(),
+            Left::Held(held) => held.next(alloc),
+            Left::Keys(keys) => Ok(keys.pop()),
         }
+    }
+
+    /// Shares no map with a local from then on, so that one can be changed in place: the keys that are left are copied.
+    pub fn set_apart(&mut self, alloc: Global) -> Result<(), NoMemory>
+        ensures value { self.new ≡ self.old }
+    {
+        let Left::Held(held) = &self.left else {
+            return Ok(());
+        };
+        if let Some(keys) = held.apart(alloc)? {
+            self.left = Left::Keys(keys);
+        }
+        Ok(())
     }
 }
 
 // The indexes below a length, or the bounds of slices up to it.
-fn numbers(slice: bool, len: usize) -> Candidates
+fn numbers<'a>(slice: bool, len: usize) -> Candidates<'a>
     requires small { len < 2 ^ 63 }
     ensures value { result ≡ numbers_of slice len }
 {
@@ -123,29 +145,6 @@ fn numbers(slice: bool, len: usize) -> Candidates
     Candidates {
         left: Left::Numbers(0, count),
     }
-}
-
-// The keys of the pairs, the first one last.
-#[tactic(auto, using(crate::proofs::ListLemmas::keys_back))]
-fn keys(alloc: Global, pairs: &[Pair]) -> Result<Candidates, NoMemory>
-    ensures value { IfOk result (λ made. made ≡ keys_of (seen_pairs pairs.now)) }
-{
-    let mut keys = copied_keys(alloc, pairs)?;
-    keys.reverse();
-    Ok(Candidates {
-        left: Left::Keys(keys),
-    })
-}
-
-// Copies of the keys of the pairs.
-fn copied_keys(alloc: Global, pairs: &[Pair]) -> Result<Vec<Value>, NoMemory>
-    ensures value { IfOk result (λ made. map seen made.items ≡ keys_of (seen_pairs pairs.now)) }
-{
-    let mut keys = Vec::with_capacity(alloc, pairs.len())?;
-    for pair in pairs {
-        keys.push(copy(alloc, &pair.key)?)?;
-    }
-    Ok(keys)
 }
 
 // The number of elements.

@@ -6,6 +6,7 @@ mod calls;
 mod candidates;
 mod cell;
 mod finding;
+mod held;
 mod inside;
 mod maps;
 mod numbers;
