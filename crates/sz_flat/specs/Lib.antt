@@ -6,5 +6,5 @@ pub mod Lists
 pub mod Reading
 -- what the ghost members of types rest on
 pub mod Kept
-pub mod Held
+pub mod Storage
 pub mod OneSpelling

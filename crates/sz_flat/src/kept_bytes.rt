@@ -5,8 +5,8 @@ ghost use Rattle.sz_flat.specs.Spelling.{HaveShortLengths};
 ghost use Rattle.sz_flat.specs.Lists.{SpellsAll};
 
 use crate::NoMemory;
-use crate::held::Held;
 use crate::short_bytes::{MOST, ShortBytes};
+use crate::storage::Storage;
 use crate::writing::spell_anew;
 use std::alloc::Global;
 use std::marker::Model;
@@ -18,22 +18,25 @@ use sz_value::List;
 // Contracts see the list of the bytes.
 pub(crate) struct KeptBytes {
     alloc: Global,
-    held: Held,
+    storage: Storage,
 }
 
 impl Drop for KeptBytes {
     fn drop(self) {
-        let KeptBytes { alloc: _, held: _ } = self;
+        let KeptBytes {
+            alloc: _,
+            storage: _,
+        } = self;
     }
 }
 
 impl Model for KeptBytes {
     ghost use Rattle.std.specs.Prelude.{ℕ, List};
-    ghost use Rattle.sz_flat.specs.Held.{bytes_of};
+    ghost use Rattle.sz_flat.specs.Storage.{bytes_of};
 
     ghost Value = { List ℕ };
 
-    ghost view = { λ kept. bytes_of kept.held };
+    ghost view = { λ kept. bytes_of kept.storage };
 }
 
 impl KeptBytes {
@@ -43,7 +46,7 @@ impl KeptBytes {
     {
         KeptBytes {
             alloc,
-            held: Held::Long(Vec::new(alloc)),
+            storage: Storage::Long(Vec::new(alloc)),
         }
     }
 
@@ -51,21 +54,21 @@ impl KeptBytes {
     pub(crate) fn copied(alloc: Global, bytes: &[u8]) -> Result<KeptBytes, NoMemory>
         ensures value { IfOk result (λ kept. kept ≡ bytes.now) }
     {
-        let held = if bytes.len() <= MOST {
-            Held::Short(ShortBytes::copied(bytes))
+        let storage = if bytes.len() <= MOST {
+            Storage::Short(ShortBytes::copied(bytes))
         } else {
-            Held::Long(Vec::from_slice(alloc, bytes)?)
+            Storage::Long(Vec::from_slice(alloc, bytes)?)
         };
-        Ok(KeptBytes { alloc, held })
+        Ok(KeptBytes { alloc, storage })
     }
 
     // The bytes.
     pub(crate) fn as_slice(&self) -> &[u8]
         ensures value { result.now ≡ self.now }
     {
-        match &self.held {
-            Held::Short(bytes) => bytes.as_slice(),
-            Held::Long(bytes) => bytes.as_slice(),
+        match &self.storage {
+            Storage::Short(bytes) => bytes.as_slice(),
+            Storage::Long(bytes) => bytes.as_slice(),
         }
     }
 
@@ -76,12 +79,12 @@ impl KeptBytes {
         ensures ok { OnOk result (SpellsAll self.new values.now) }
         ensures err { OnErr result (self.new ≡ []) }
     {
-        match &mut self.held {
-            Held::Long(bytes) => spell_anew(values, bytes),
-            Held::Short(_) => {
+        match &mut self.storage {
+            Storage::Long(bytes) => spell_anew(values, bytes),
+            Storage::Short(_) => {
                 let mut bytes = Vec::new(self.alloc);
                 let spelled = spell_anew(values, &mut bytes);
-                self.held = Held::Long(bytes);
+                self.storage = Storage::Long(bytes);
                 spelled
             }
         }

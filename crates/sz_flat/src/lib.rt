@@ -3,12 +3,12 @@
 
 mod error;
 mod flat_list;
-mod held;
 mod kept_bytes;
 mod laws;
 mod parts;
 mod reading;
 mod short_bytes;
+mod storage;
 mod writing;
 
 pub use error::FlatError;

@@ -63,11 +63,11 @@ keys_count [] = refl
 keys_count (p ∷ ps) = ap suc (keys_count ps)
 
 -- no keys are left after all pairs
-pub none_behind : (ps : List Pair) (n : ℕ) → length ps ≤ n → drop n (keys_of (seen_pairs ps)) ≡ []
-none_behind [] zero h = refl
-none_behind [] (suc n) h = refl
-none_behind (p ∷ ps) zero h = absurd (omega (arith, h))
-none_behind (p ∷ ps) (suc n) h = none_behind ps n (omega (arith, h))
+pub no_keys_from : (ps : List Pair) (n : ℕ) → length ps ≤ n → drop n (keys_of (seen_pairs ps)) ≡ []
+no_keys_from [] zero h = refl
+no_keys_from [] (suc n) h = refl
+no_keys_from (p ∷ ps) zero h = absurd (omega (arith, h))
+no_keys_from (p ∷ ps) (suc n) h = no_keys_from ps n (omega (arith, h))
 
 -- the key at a place is that of the pair there
 pub key_nth : (ps : List (Datum × Datum)) (n : ℕ) → option_map (λ p. p.0) (slice_get ps n) ≡ slice_get (keys_of ps) n

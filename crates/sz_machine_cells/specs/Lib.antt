@@ -3,7 +3,7 @@ pub mod Nested
 pub mod Insides
 pub mod Cells
 pub mod Results
-pub mod HeldKeys
+pub mod MapKeys
 pub mod Candidates
 pub mod Calls
 pub mod Storing

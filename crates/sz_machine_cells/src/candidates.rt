@@ -6,7 +6,7 @@ ghost use Rattle.sz_world_rules.specs.Candidates.{candidates};
 ghost use Rattle.sz_machine_cells.specs.Candidates.{numbers_of};
 
 use crate::cell::Cell;
-use crate::held::Held;
+use crate::map_keys::MapKeys;
 use std::alloc::Global;
 use std::marker::Model;
 use sz_builtin::{Kind, View};
@@ -31,7 +31,7 @@ impl<'a> Drop for Candidates<'a> {
 pub enum Left<'a> {
     // The next number, and how many are left.
     Numbers(u64, u64),
-    Held(Held<'a>),
+    KeysOf(MapKeys<'a>),
     // Keys, the next one last.
     Keys(Vec<Value>),
 }
@@ -74,7 +74,7 @@ impl<'a> Candidates<'a> {
             Kind::Str(text) => Ok(numbers(slice, characters(text))),
             Kind::Bytes(contents) => Ok(numbers(slice, contents.len())),
             Kind::Map(_) if !slice => Ok(Candidates {
-                left: Left::Held(Held::of(base)?),
+                left: Left::KeysOf(MapKeys::of(base)?),
             }),
             _ => Ok(Candidates::none()),
         }
@@ -95,7 +95,7 @@ impl<'a> Candidates<'a> {
     {
         match &self.left {
             Left::Numbers(_, count) => *count == 0,
-            Left::Held(held) => held.is_empty(),
+            Left::KeysOf(keys) => keys.is_empty(),
             Left::Keys(keys) => keys.is_empty(),
         }
     }
@@ -117,7 +117,7 @@ impl<'a> Candidates<'a> {
                 *count -= 1;
                 Ok(Some(Value::Int(number as i64)))
             }
-            Left::Held(held) => held.next(alloc),
+            Left::KeysOf(keys) => keys.next(alloc),
             Left::Keys(keys) => Ok(keys.pop()),
         }
     }
@@ -126,10 +126,10 @@ impl<'a> Candidates<'a> {
     pub fn set_apart(&mut self, alloc: Global) -> Result<(), NoMemory>
         ensures value { self.new ≡ self.old }
     {
-        let Left::Held(held) = &self.left else {
+        let Left::KeysOf(keys) = &self.left else {
             return Ok(());
         };
-        if let Some(keys) = held.apart(alloc)? {
+        if let Some(keys) = keys.apart(alloc)? {
             self.left = Left::Keys(keys);
         }
         Ok(())

@@ -2,8 +2,8 @@
 #![tactic(auto)]
 
 mod adding;
-mod held;
 mod numbers;
+mod storage;
 mod sum;
 
 pub use sum::Sum;

@@ -2,7 +2,7 @@
 ghost use Rattle.std.specs.Prelude.{◌≡◌, ◌<◌, ◌+◌, ◌+ℤ◌, ◌^◌, length, replicate, pos, IfOk};
 ghost use Rattle.sz_tabs.specs.Bounds.{IsWithin, AreWithin, added_at};
 
-use crate::held::Held;
+use crate::storage::Storage;
 use std::alloc::Global;
 use std::marker::Model;
 use std::slice;
@@ -14,22 +14,22 @@ use sz_tabs::NoMemory;
 // Contracts see the list of the sums.
 #[derive(Debug)]
 pub(crate) struct Numbers {
-    held: Held,
+    storage: Storage,
 }
 
 impl Drop for Numbers {
     fn drop(self) {
-        let Numbers { held: _ } = self;
+        let Numbers { storage: _ } = self;
     }
 }
 
 impl Model for Numbers {
     ghost use Rattle.std.specs.Prelude.{ℤ, List};
-    ghost use Rattle.sz_sum.specs.Held.{numbers_of};
+    ghost use Rattle.sz_sum.specs.Storage.{numbers_of};
 
     ghost Value = { List ℤ };
 
-    ghost view = { λ numbers. numbers_of numbers.held };
+    ghost view = { λ numbers. numbers_of numbers.storage };
 }
 
 impl Numbers {
@@ -37,20 +37,20 @@ impl Numbers {
     pub(crate) fn zeros(alloc: Global, count: usize) -> Result<Numbers, NoMemory>
         ensures value { IfOk result (λ sums. sums ≡ replicate count (pos 0)) }
     {
-        let held = match count {
-            1 => Held::One(0),
-            _ => Held::Many(vec![in alloc; 0; count]?),
+        let storage = match count {
+            1 => Storage::One(0),
+            _ => Storage::Many(vec![in alloc; 0; count]?),
         };
-        Ok(Numbers { held })
+        Ok(Numbers { storage })
     }
 
     // The sums, in order.
     pub(crate) fn as_slice(&self) -> &[i128]
         ensures value { result.now ≡ self.now }
     {
-        match &self.held {
-            Held::One(sum) => slice::from_ref(sum),
-            Held::Many(sums) => sums.as_slice(),
+        match &self.storage {
+            Storage::One(sum) => slice::from_ref(sum),
+            Storage::Many(sums) => sums.as_slice(),
         }
     }
 
@@ -62,9 +62,9 @@ impl Numbers {
         requires fits { AreWithin (2 ^ 126 + 2 ^ 63) (added_at at number self.old) }
         ensures value { self.new ≡ added_at at number self.old }
     {
-        match &mut self.held {
-            Held::One(sum) => *sum = more(*sum, number),
-            Held::Many(sums) => add_in(sums, at, number),
+        match &mut self.storage {
+            Storage::One(sum) => *sum = more(*sum, number),
+            Storage::Many(sums) => add_in(sums, at, number),
         }
     }
 }

@@ -4,7 +4,7 @@ use Rattle.std.specs.Map.{keys_of}
 use Rattle.sz_value.specs.Seen.{seen, seen_pairs}
 use Rattle.sz_machine_cells.proofs.ListLemmas.{keys_back}
 use Rattle.sz_machine_cells.proofs.CandidateLemmas.{keys_dropped}
-use Rattle.sz_machine_cells.proofs.held.pair_keys.Goals as goal
+use Rattle.sz_machine_cells.proofs.map_keys.pair_keys.Goals as goal
 
 pub returns : goal.returns
 returns c =

@@ -3,7 +3,7 @@ ghost use Rattle.std.specs.Prelude.{◌≡◌, ◌∷◌, [], ◌<◌, ◌^◌, 
 ghost use Rattle.std.specs.Map.{keys_of};
 ghost use Rattle.sz_value.specs.Seen.{seen, seen_pairs};
 ghost use Rattle.sz_builtin.specs.Views.{seen_view};
-ghost use Rattle.sz_machine_cells.specs.HeldKeys.{keys_in};
+ghost use Rattle.sz_machine_cells.specs.MapKeys.{keys_in};
 
 use crate::cell::{Cell, Form};
 use std::alloc::Global;
@@ -14,18 +14,18 @@ use sz_value::{NoMemory, Pair, Pairs, Value, copy};
 /// A map, which is shared, and the place of the next of its keys.
 ///
 /// Contracts see the list of the keys that are left, the next one first.
-pub struct Held<'a> {
+pub struct MapKeys<'a> {
     base: Cell<'a>,
     next: usize,
 }
 
-impl<'a> Drop for Held<'a> {
+impl<'a> Drop for MapKeys<'a> {
     fn drop(self) {
-        let Held { base: _, next: _ } = self;
+        let MapKeys { base: _, next: _ } = self;
     }
 }
 
-impl<'a> Model for Held<'a> {
+impl<'a> Model for MapKeys<'a> {
     ghost use Rattle.std.specs.Prelude.{List, drop};
     ghost use Rattle.sz_value.specs.Data.{Datum};
     ghost use Rattle.sz_value.specs.Code.{parts_code};
@@ -34,17 +34,17 @@ impl<'a> Model for Held<'a> {
 
     ghost coded = { parts_code };
 
-    ghost use Rattle.sz_machine_cells.specs.HeldKeys.{keys_in};
+    ghost use Rattle.sz_machine_cells.specs.MapKeys.{keys_in};
 
-    ghost view = { λ held. drop held.next (keys_in held.base) };
+    ghost view = { λ keys. drop keys.next (keys_in keys.base) };
 }
 
-impl<'a> Held<'a> {
+impl<'a> MapKeys<'a> {
     /// All keys of a map. Anything else has none.
-    pub(crate) fn of(base: &Cell<'a>) -> Result<Held<'a>, NoMemory>
+    pub(crate) fn of(base: &Cell<'a>) -> Result<MapKeys<'a>, NoMemory>
         ensures value { IfOk result (λ made. made ≡ keys_in base.now) }
     {
-        Ok(Held {
+        Ok(MapKeys {
             base: base.copy()?,
             next: 0,
         })
@@ -174,7 +174,7 @@ fn view_keys(alloc: Global, base: &View<'_>, n: usize) -> Result<Vec<Value>, NoM
 }
 
 // The same, of pairs.
-#[tactic(auto, using(crate::proofs::CandidateLemmas::none_behind))]
+#[tactic(auto, using(crate::proofs::CandidateLemmas::no_keys_from))]
 fn pair_keys(alloc: Global, pairs: &Pairs, n: usize) -> Result<Vec<Value>, NoMemory>
     ensures value { IfOk result (λ made. reverse (map seen made.items) ≡ drop n (keys_of pairs.now)) }
 {

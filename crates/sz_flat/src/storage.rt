@@ -1,9 +1,9 @@
 //! How bytes are kept.
 use crate::short_bytes::ShortBytes;
 
-// How bytes are kept.
+// The bytes of a list, in one of two places.
 #[derive(Drop)]
-pub(crate) enum Held {
+pub(crate) enum Storage {
     // In place.
     Short(ShortBytes),
     // In a block of their own, with room for more.

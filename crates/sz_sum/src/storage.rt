@@ -1,8 +1,8 @@
 //! How sums are kept.
 
-// How sums are kept.
+// The sums of one index list by component.
 #[derive(Debug, Drop)]
-pub(crate) enum Held {
+pub(crate) enum Storage {
     // A single one, in place.
     One(i128),
     // None or several, in a block of their own.
