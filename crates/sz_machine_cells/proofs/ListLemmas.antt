@@ -142,7 +142,9 @@ third_set xs y h =
     ∙ reverse-append (take k xs) (y ∷ []) ∙ ap (λ l. y ∷ l) (below_last xs 3 (omega (arith, h)))
 
 pub third_is : {X : Type 0} → (xs : List X) (d : X) → 2 < length xs → drop 2 (reverse xs) ≡ get_or xs (length xs - 3) d ∷ drop 3 (reverse xs)
-third_is xs d h = ap (λ ys. drop 2 (reverse ys)) (sym (set-get_or xs (length xs - 3) d)) ∙ third_set xs (get_or xs (length xs - 3) d) h
+third_is xs d h =
+    let third = get_or xs (length xs - 3) d in
+    ap (λ ys. drop 2 (reverse ys)) (sym (set-get_or xs (length xs - 3) d)) ∙ third_set xs third h
 
 -- the values of a list that is turned round
 defined_back : (xs : List Slot) → defined_of (reverse xs) ≡ reverse (defined_of xs)
