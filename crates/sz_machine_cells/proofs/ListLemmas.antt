@@ -138,8 +138,8 @@ third_set xs y h =
     let k = length xs - 3 in
     let ys = set xs k y in
     let long = length-set xs k y in
-    sym (below_last ys 2 (omega (arith, long, h))) ∙ ap (λ n. reverse (take n ys)) (omega (arith, long, h)) ∙ ap reverse (take_more_set xs k y (omega (arith, h)))
-    ∙ reverse-append (take k xs) (y ∷ []) ∙ ap (λ l. y ∷ l) (below_last xs 3 (omega (arith, h)))
+    sym (below_last ys 2 (omega (arith, long, h))) ∙ ap (λ n. reverse (take n ys)) (omega (arith, long, h))
+    ∙ ap reverse (take_more_set xs k y (omega (arith, h))) ∙ reverse-append (take k xs) (y ∷ []) ∙ ap (λ l. y ∷ l) (below_last xs 3 (omega (arith, h)))
 
 pub third_is : {X : Type 0} → (xs : List X) (d : X) → 2 < length xs → drop 2 (reverse xs) ≡ get_or xs (length xs - 3) d ∷ drop 3 (reverse xs)
 third_is xs d h =
