@@ -4,7 +4,7 @@ pub mod Laws
 pub mod Lists
 -- what the functions inside the crate promise each other
 pub mod Reading
+pub mod Storage
 -- what the ghost members of types rest on
 pub mod Kept
-pub mod Storage
 pub mod OneSpelling

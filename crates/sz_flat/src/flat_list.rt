@@ -51,8 +51,8 @@ impl FlatList {
         }
     }
 
-    /// Takes these values in the stead of its own. It keeps its room for the next ones, so it takes memory only where it never had as
-    /// many bytes. Where there is none it has no values.
+    /// Takes these values in the stead of its own. It keeps its room for the next ones, so it takes memory only where it has no block
+    /// with room for as many bytes. Where there is none it has no values.
     pub fn set(&mut self, values: &List) -> Result<(), NoMemory>
         requires short { HaveShortLengths (data_of values.now) }
         ensures ok { OnOk result (self.new ≡ values.now) }

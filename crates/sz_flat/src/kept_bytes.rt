@@ -13,7 +13,7 @@ use std::marker::Model;
 use sz_value::List;
 
 // The bytes of a list of values. A copy keeps few bytes in place, and takes memory only for more: most keys of tables are short, and a
-// table may have a million of them. What values were spelled into has a block, since it keeps its room for the next ones.
+// table may have a million of them. What values are spelled into is a block, which keeps its room for the next ones.
 //
 // Contracts see the list of the bytes.
 pub(crate) struct KeptBytes {

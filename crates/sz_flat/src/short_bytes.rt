@@ -3,8 +3,8 @@ ghost use Rattle.std.specs.Prelude.{◌≡◌, ◌≤◌, length};
 
 use std::marker::Model;
 
-// The most bytes that are kept in place. With so many, and a byte that counts them, the bytes of a list take no more place than where
-// they have a block of their own, whose address, length and room take 24 bytes.
+// The most bytes that are kept in place. With a byte that counts them and one that tells that they are in place they take 32 bytes, as do the
+// address, the length and the room of a block with a mark that tells it.
 pub(crate) const MOST: usize = 30;
 
 // At most so many bytes, in place. They take no memory.

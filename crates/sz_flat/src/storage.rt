@@ -6,6 +6,6 @@ use crate::short_bytes::ShortBytes;
 pub(crate) enum Storage {
     // In place.
     Short(ShortBytes),
-    // In a block of their own, with room for more.
+    // In a block of their own; where there are none, without one.
     Long(Vec<u8>),
 }

@@ -17,7 +17,7 @@ use sz_machine_cells::Cell;
 use sz_types::{Builtin, Ty};
 
 impl<'a> RunState<'a> {
-    /// Puts the length of the topmost bytes in their stead, or the place of the bytes below in them.
+    /// Puts the length of the topmost bytes in their stead; or the place at which the bytes below stand in them, in the stead of both.
     #[inline(never)]
     pub fn apply_to_octets(&mut self, which: Builtin) -> bool
         requires within { arity which ≤ length self.old.operands }
@@ -43,7 +43,7 @@ impl<'a> RunState<'a> {
         true
     }
 
-    // Puts the place of bytes in the topmost ones in the stead of both.
+    // Puts the place at which the bytes below stand in the topmost ones in the stead of both.
     fn search(&mut self) -> bool
         requires some { 1 < length self.old.operands }
         ensures value { (code : Code) → DoesIf result (weighs_and_acts code (instr.Apply StrFind)) self.old self.new }
@@ -75,7 +75,7 @@ impl<'a> RunState<'a> {
         true
     }
 
-    /// Cuts bytes in a buffer to the part between the two topmost places, if the ticks for it are left.
+    /// Cuts a part of a buffer to its own part between the two topmost places, if the ticks for that are left.
     #[inline(never)]
     pub fn cut(&mut self) -> bool
         requires some { 2 < length self.old.operands }

@@ -1,4 +1,4 @@
--- The keys of a map that is shared.
+-- The keys of a slot that is a map.
 use Rattle.std.specs.Prelude.{List, [], Some}
 use Rattle.std.specs.Map.{keys_of}
 use Rattle.sz_value.specs.Data.{Datum, mapping, pairs_of}

@@ -75,6 +75,7 @@ impl<'a> Cell<'a> {
         let (more, few) = bytes_between(part_bytes(*count, *before, buffer), from, to)?;
         let weight = few as u64 + 1;
         let after = *before as usize + more;
+        // of a part it is never more than that many bytes, and of one in a buffer below 4 GiB never after more
         if weight > most || few > MOST_IN_PART || after > MOST_BEFORE_PART {
             return None;
         }

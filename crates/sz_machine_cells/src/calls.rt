@@ -192,8 +192,8 @@ impl<'a> Calls<'a> {
         }
     }
 
-    /// Where another cell shares the value of a local, no candidate list of the routine that runs shares a map from then on: so the value
-    /// may be changed in place.
+    /// Where another cell shares the value of a local, no candidate list of the routine that runs counts among its owners from then on: so the
+    /// value can be changed in place, if only they did.
     #[inline(never)]
     pub fn set_apart(&mut self, alloc: Global, n: u32) -> Result<(), NoMemory>
         requires within { n < length self.old.locals }

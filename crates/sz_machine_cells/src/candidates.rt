@@ -31,6 +31,7 @@ impl<'a> Drop for Candidates<'a> {
 pub enum Left<'a> {
     // The next number, and how many are left.
     Numbers(u64, u64),
+    // The keys of a map that are left, in the map.
     KeysOf(MapKeys<'a>),
     // Keys, the next one last.
     Keys(Vec<Value>),

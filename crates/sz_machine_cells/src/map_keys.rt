@@ -74,7 +74,8 @@ impl<'a> MapKeys<'a> {
         }
     }
 
-    /// Copies of the keys that are left, the next one last, so that the map need not be shared. One that stays with its owner may go on so.
+    /// Copies of the keys that are left, the next one last, so that the map need not be shared: none where it stays with its
+    /// owner, and isn't.
     pub(crate) fn apart(&self, alloc: Global) -> Result<Option<Vec<Value>>, NoMemory>
         ensures value { IfOk result (λ made. IfSome made (λ keys. reverse (map seen keys.items) ≡ self.now)) }
     {

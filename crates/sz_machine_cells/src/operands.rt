@@ -165,8 +165,8 @@ impl<'a> Operands<'a> {
         }
     }
 
-    /// Puts the part between two places in the stead of these whole numbers, which are the two topmost operands, and of what it is a part of,
-    /// if that is bytes in a buffer and the part weighs no more than `most`: what it weighs. Else nothing is done.
+    /// The two topmost operands are these whole numbers. Where below them is a part of a buffer, whose own part between the two places is
+    /// defined and weighs no more than `most`, that one stands for all three from then on, and the answer is its weight. Else nothing is done.
     #[inline(always)]
     pub fn cut_below(&mut self, from: i64, to: i64, most: u64) -> Option<u64>
         requires some { 2 < length self.old }

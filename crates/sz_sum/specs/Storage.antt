@@ -4,6 +4,6 @@ use Rattle.sz_sum.specs.declared.storage.Storage.{Storage}
 use Rattle.sz_sum.specs.declared.storage.Storage.TheVariants.{One, Many}
 
 -- the sums, of which a single one is kept in place
-abbrev pub numbers_of : Storage → List ℤ
-numbers_of (One sum) = sum ∷ []
-numbers_of (Many sums) = sums.items
+abbrev pub sums_of : Storage → List ℤ
+sums_of (One sum) = sum ∷ []
+sums_of (Many sums) = sums.items

@@ -25,11 +25,11 @@ impl Drop for Numbers {
 
 impl Model for Numbers {
     ghost use Rattle.std.specs.Prelude.{ℤ, List};
-    ghost use Rattle.sz_sum.specs.Storage.{numbers_of};
+    ghost use Rattle.sz_sum.specs.Storage.{sums_of};
 
     ghost Value = { List ℤ };
 
-    ghost view = { λ numbers. numbers_of numbers.storage };
+    ghost view = { λ numbers. sums_of numbers.storage };
 }
 
 impl Numbers {

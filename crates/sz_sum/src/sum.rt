@@ -17,8 +17,8 @@ use sz_value::Value;
 /// The exact sum of the values that are emitted to one table under one index list, by component: one number for a table of
 /// `int`, and one for each part for a table of tuples. It borrows the declaration, so many sums of one table share it.
 ///
-/// Contracts see the declaration, the number of emits and the sums. Only a new sum of a table of tuples takes memory, since a single
-/// number is kept in place: no emit does, nor a merge.
+/// Contracts see the declaration, the number of emits and the sums. A single number is kept in place, so only a new sum of several
+/// takes memory, and the rows: no emit does, nor a merge.
 #[derive(Debug)]
 pub struct Sum<'a> {
     alloc: Global,

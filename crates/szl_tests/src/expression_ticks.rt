@@ -166,6 +166,13 @@ $ [run p f --budget 19]
 a: array of string = {"ab", "c"};¶s := a[0:1]; => 0
 $ [run p f --budget 18] => 3 ! record 1: budget passed at 2:1
 
+== ticks: so does a slice of the record, which is cut where it lies
+< abc¶
+$ [run p f --budget 9]
+s := input[0:3]; => 0
+$ [run p f --budget 8] => 3 ! record 1: budget passed at 1:1
+$ [run p f --budget 7] => 3 ! record 1: budget passed at 1:6
+
 == ticks: a composite takes the weight of its result
 < ¶
 $ [run p f --budget 3]

@@ -132,6 +132,17 @@ c: table sum of int; emit c <- strfind("b", "aéb") + strfind("", "x") * 10 + st
 c: table sum of int; emit c <- strfind("x", "ab"); => 0 c[] = -1¶
 c: table sum of int; emit c <- strfind(B"\xa9b", bytes("aéb")) + strfind(B"", B"") * 10; => 0 c[] = 2¶
 
+== bytes are searched, measured, cut and read as numbers where they lie
+< ¶
+c: table sum of int; emit c <- strfind(B"b", B"abcb") + (strfind(B"x", B"ab") + 2) * 10 + (strfind(B"a", B"") + 2) * 100 + strfind(B"", B"xy") * 1000 + strfind(B"ab", B"aab") * 10000; => 0 c[] = 10111¶
+< a b¶
+c: table sum of int; emit c <- strfind(B" ", input) + strfind(B"b", input[1:3]) * 10 + strfind(input[0:1], input) * 100 + strfind(input[0:2], input[1:3]) * 1000; => 0 c[] = -989¶
+< ab,cd,,x¶
+c: table sum of int; r := input[3:len(input)]; q := r[1:3]; emit c <- len(r) + len(q) * 10 + int(q == B"d,") * 100 + int(input == B"ab,cd,,x") * 1000; => 0 c[] = 1125¶
+c: table sum of int; u: int; r := input[1:4]; emit c <- int(def(r[u:2])) + int(def(r[0:u])) * 10 + int(def(r[2:1])) * 100 + int(def(r[-1:2])) * 1000 + int(def(r[0:4])) * 10000 + int(def(r[3:3])) * 100000; => 0 c[] = 100000¶
+< 12,-7,+5,x¶
+c: table sum of int; emit c <- int(input[0:2]) + int(input[3:5]) * 100 + int(input[6:8]) * 10000 + int(def(int(input[9:10]))) * 1000000 + int(def(int(input[2:2]))) * 10000000; => 0 c[] = 49312¶
+
 == conversions
 < ¶
 c: table sum of int; emit c <- int("+7") + int("-07") + int(B"12"); => 0 c[] = 12¶

@@ -53,6 +53,17 @@ t: table collection of int; a: array of int = {1, 1, 1}; b: array of int = {5}; 
 t: table collection of int; a: array of int = {1, 2}; n: int = 0; when (i: each int; a[i] > 0) { n++; a = a + {9}; } emit t <- n; => 0 t[] = 2¶
 t: table collection of int; a: array of int = {1, 2}; n: int = 0; when (i: each int; a[i] > 0) { n++; a = {}; } emit t <- n; => 0 t[] = 1¶
 
+== when: the keys of a map are those that it had, whatever the statement does to it
+< ¶
+c: table sum of int; n: int = 0; m: map[string] of int = {"a": 1, "b": 2, "c": 3}; when (k: each string; m[k] > 0) { m[k + "x"] = 9; n++; } emit c <- n * 10 + len(m); => 0 c[] = 36¶
+c: table sum of int; n: int = 0; m: map[string] of int = {"a": 1, "b": 2, "c": 3}; when (k: each string; !def(m[k]) || m[k] > 0) { n++; m = {:}; } emit c <- n; => 0 c[] = 3¶
+c: table sum of int; n: int = 0; m: map[int] of int = {1: 1, 2: 1}; when (i: each int; m[i] > 0) { when (j: each int; m[j] > 0) { m[i * 10 + j] = 1; n++; } } emit c <- n + len(m) * 10; => 0 c[] = 86¶
+c: table sum of int; n: int = 0; m: map[int] of int = {1: 1}; when (k: each int; m[k] > 0) { m[2] = 1; n++; } emit c <- n + len(m) * 10; => 0 c[] = 21¶
+c: table sum of int; n: int = 0; m: map[string] of map[int] of int = {"a": {1: 1, 2: 1}}; when (k: each int; m["a"][k] > 0) { m["a"][k + 10] = 1; n++; } emit c <- n + len(m["a"]) * 10; => 0 c[] = 42¶
+c: table sum of int; static s: map[int] of int = {1: 5, 2: 6}; m: map[int] of int = {1: 1}; o := m; when (k: each int; s[k] > 0) m[k] = s[k]; emit c <- m[1] + m[2] * 10 + o[1] * 100 + len(o) * 1000; => 0 c[] = 1165¶
+c: table sum of int; a: array of int = {1, 2}; b := a; when (i: each int; a[i] > 0) a[i] = 9; emit c <- a[0] + a[1] * 10 + b[0] * 100 + b[1] * 1000; => 0 c[] = 2199¶
+c: table sum of int; n: int = 0; f: function(m: map[int] of int): int { m[9] = 1; return len(m); } m: map[int] of int = {1: 1, 2: 1}; when (k: each int; m[k] > 0) n = n * 10 + f(m); emit c <- n + len(m) * 100; => 0 c[] = 233¶
+
 == when: break and continue stay inside, and return leaves it
 < ¶
 t: table collection of int; f: function(a: array of int): int { when (i: some int; a[i] > 1) return i; return 9; } emit t <- f({1, 2, 3}); emit t <- f({}); => 0 t[] = 1¶t[] = 9¶

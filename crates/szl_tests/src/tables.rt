@@ -80,6 +80,12 @@ type P = {n: int, squares: int}; t: table sum[positive: bool] of P; x: int = inp
 t: table sum of {a: int, b: int}; x: int = input; emit t <- {x, -x - 1}; => 0 t[] = {18446744073709551614, -18446744073709551616}¶
 t: table sum[string] of int; x: int = input; emit t["up"] <- x; emit t["down"] <- -x - 1; => 0 t["down"] = -18446744073709551616¶t["up"] = 18446744073709551614¶
 
+== a sum is found by its index list, however many bytes that has
+< aaaaaaaaaaaaaaaaaaaaaaaaa¶aaaaaaaaaaaaaaaaaaaaaaaaaa¶aaaaaaaaaaaaaaaaaaaaaaaaa¶
+c: table sum[string] of int; s: string = input; emit c[s] <- 1; => 0 c["aaaaaaaaaaaaaaaaaaaaaaaaa"] = 2¶c["aaaaaaaaaaaaaaaaaaaaaaaaaa"] = 1¶
+$ [run p f --shard 1 --workers 2]
+c: table sum[string] of int; s: string = input; emit c[s] <- 1; => 0 c["aaaaaaaaaaaaaaaaaaaaaaaaa"] = 2¶c["aaaaaaaaaaaaaaaaaaaaaaaaaa"] = 1¶
+
 == a table to which nothing was emitted prints nothing
 a: table sum of int; b: table maximum(1) of int weight int; c: table minimum(1) of int weight int; d: table set(1) of int; e: table collection of int;  => 0
 a: table sum of int; b: table maximum(1) of int weight int; c: table minimum(1) of int weight int; d: table set(1) of int; e: table collection of int; x: int = input; emit a <- x; emit b <- 1 weight x; emit c <- x weight 1; emit d <- x; emit e <- x; => 0
