@@ -4,7 +4,9 @@ use crate::given::{Given, list_of, map};
 use std::alloc::Global;
 use std::cmp::Ordering;
 use std::hash::{DefaultHasher, Hash, Hasher};
-use sz_value::{List, NoMemory, Pair, Pairs, Slot, Slots, Text, Value, copy, equal, order, weight};
+use sz_value::{
+    List, NoMemory, Pair, Pairs, Slot, Slots, Text, Value, copy, copy_pairs, equal, order, weight,
+};
 
 // Each value is less than all after it.
 const ASCENDING: &[Given] = &[
@@ -57,8 +59,13 @@ enum Row {
     Cut(&'static str, usize, usize, &'static str),
     // The pairs that are given, and those of the map that is made of them.
     Pairs(&'static [(i64, i64)], &'static [(i64, i64)]),
+    // The pairs that are given, a key, and its place in the map that is made of them, if it is there.
+    PlaceOf(&'static [(i64, i64)], i64, Option<usize>),
     // A map of many numbers, from pairs with falling keys.
     Falling,
+    // So many pairs, with even keys from 0 on, are put into a map one by one, the key of this number first. Each comes so many
+    // after the one before; after the last comes the first.
+    Grown(i64, i64, i64),
     // Pairs are put into a map and replaced.
     Replaced,
     // What a list gives back.
@@ -93,7 +100,31 @@ const ROWS: &[Row] = &[
     Row::Pairs(&[(3, 7), (2, 6), (1, 5)], &[(1, 5), (2, 6), (3, 7)]),
     Row::Pairs(&[(2, 1), (1, 5), (2, 2), (2, 3)], &[(1, 5), (2, 3)]),
     Row::Pairs(&[(0, 9), (-1, 8), (0, 7), (-1, 6)], &[(-1, 6), (0, 7)]),
+    Row::PlaceOf(&[], 0, None),
+    Row::PlaceOf(&[(4, 1)], 4, Some(0)),
+    Row::PlaceOf(&[(6, 0), (2, 0), (4, 0)], 1, None),
+    Row::PlaceOf(&[(6, 0), (2, 0), (4, 0)], 2, Some(0)),
+    Row::PlaceOf(&[(6, 0), (2, 0), (4, 0)], 3, None),
+    Row::PlaceOf(&[(6, 0), (2, 0), (4, 0)], 4, Some(1)),
+    Row::PlaceOf(&[(6, 0), (2, 0), (4, 0)], 6, Some(2)),
+    Row::PlaceOf(&[(6, 0), (2, 0), (4, 0)], 7, None),
+    Row::PlaceOf(&[(2, 0), (1, 0), (2, 1)], 2, Some(1)),
     Row::Falling,
+    Row::Grown(0, 0, 1),
+    Row::Grown(1, 0, 1),
+    Row::Grown(255, 0, 1),
+    Row::Grown(256, 255, 255),
+    Row::Grown(257, 128, 128),
+    Row::Grown(511, 0, 510),
+    Row::Grown(512, 511, 511),
+    Row::Grown(513, 256, 256),
+    Row::Grown(3000, 0, 1),
+    Row::Grown(3000, 1500, 1),
+    Row::Grown(3000, 2999, 2999),
+    Row::Grown(3000, 1499, 2999),
+    Row::Grown(3001, 0, 1500),
+    Row::Grown(3001, 2, 1501),
+    Row::Grown(3000, 7, 1171),
     Row::Replaced,
     Row::List,
     Row::Slots,
@@ -275,11 +306,21 @@ fn number_at(pairs: &Pairs, key: i64) -> i64 {
     number
 }
 
+// The place of a key, if it is there.
+fn place_of(pairs: &Pairs, key: i64) -> Option<usize> {
+    let key = Value::Int(key);
+    let place = pairs.place_of(&key);
+    drop(key);
+    place
+}
+
 // Whether the pairs are these.
 fn are_pairs(pairs: &Pairs, wanted: &[(i64, i64)]) -> bool {
     let mut all = pairs.len() == wanted.len();
-    for (pair, (key, value)) in pairs.as_slice().iter().zip(wanted) {
-        all = all && number_in(&pair.key) == *key && number_in(&pair.value) == *value;
+    for place in 0..pairs.len().min(wanted.len()) {
+        let pair = pairs.pair(place);
+        let (key, value) = wanted[place];
+        all = all && number_in(&pair.key) == key && number_in(&pair.value) == value;
     }
     all
 }
@@ -297,6 +338,17 @@ fn gives(alloc: Global, given: &[(i64, i64)], wanted: &[(i64, i64)]) -> Result<b
     Ok(are_pairs(&pairs, wanted))
 }
 
+// Whether a key has this place in a map that is made from the pairs.
+fn has_place(
+    alloc: Global,
+    given: &[(i64, i64)],
+    key: i64,
+    wanted: Option<usize>,
+) -> Result<bool, NoMemory> {
+    let pairs = map(alloc, given)?;
+    Ok(place_of(&pairs, key) == wanted)
+}
+
 // Whether a map of many numbers is made from pairs with falling keys.
 fn gives_falling(alloc: Global) -> Result<bool, NoMemory> {
     let mut pairs = Vec::new(alloc);
@@ -308,6 +360,116 @@ fn gives_falling(alloc: Global) -> Result<bool, NoMemory> {
     }
     let pairs = Pairs::from_pairs(alloc, pairs)?;
     Ok(pairs.len() == 2000 && number_at(&pairs, -1999) == 1999)
+}
+
+// A map of so many pairs with even keys, put in from the key of the number `start` on, each `step` after the one before.
+fn grown(alloc: Global, count: i64, start: i64, step: i64) -> Result<Pairs, NoMemory> {
+    let mut pairs = Pairs::new(alloc);
+    let mut number = start;
+    for _ in 0..count {
+        pairs.insert(key_of(number), Value::Int(number))?;
+        number = number.wrapping_add(step);
+        if number >= count {
+            number = number.wrapping_sub(count);
+        }
+    }
+    Ok(pairs)
+}
+
+// The key of the pair of this number.
+fn key_of(number: i64) -> Value {
+    Value::Int(number.wrapping_mul(2))
+}
+
+// Whether a map that grew so has all its pairs in order, finds them and no others, keeps what is changed in it, weighs what they
+// do, and is the same as its copy and as the map that grew in the order of its keys.
+fn grows(alloc: Global, count: i64, start: i64, step: i64) -> Result<bool, NoMemory> {
+    let mut pairs = grown(alloc, count, start, step)?;
+    let held = has_all(&pairs, count, 0) && finds_all(&pairs);
+    let changed = changes_all(&mut pairs, count)?;
+    let copied = copy_grows(alloc, &pairs)?;
+    let weighed = (pairs.len() as u64).wrapping_mul(2).wrapping_add(1);
+    let value = Value::Map(pairs);
+    let weighs = weight(&value) == weighed;
+    let same = is_same(alloc, count, &value);
+    drop(value);
+    Ok(held && changed && copied && weighs && same?)
+}
+
+// Whether there are so many pairs, the keys of the numbers from 0 on, each with so much more than its number.
+fn has_all(pairs: &Pairs, count: i64, more: i64) -> bool {
+    let mut number: i64 = 0;
+    let mut all = pairs.is_empty() == (count == 0);
+    for place in 0..pairs.len() {
+        let pair = pairs.pair(place);
+        all = all
+            && number_in(&pair.key) == number.wrapping_mul(2)
+            && number_in(&pair.value) == number.wrapping_add(more);
+        number = number.wrapping_add(1);
+    }
+    all && number == count
+}
+
+// Whether each key is found at its place, with its number, and none is found before, between and after them.
+fn finds_all(pairs: &Pairs) -> bool {
+    let mut key: i64 = 0;
+    let mut all = !finds(pairs, -1);
+    for place in 0..pairs.len() {
+        all = all
+            && place_of(pairs, key) == Some(place)
+            && number_at(pairs, key).wrapping_mul(2) == key
+            && !finds(pairs, key.wrapping_add(1));
+        key = key.wrapping_add(2);
+    }
+    all && !finds(pairs, key)
+}
+
+// Whether a key is found.
+fn finds(pairs: &Pairs, key: i64) -> bool {
+    place_of(pairs, key).is_some() || number_at(pairs, key) != 1000
+}
+
+// Whether other numbers can be put in at all keys and then be replaced by those that were there.
+fn changes_all(pairs: &mut Pairs, count: i64) -> Result<bool, NoMemory> {
+    for number in 0..count {
+        pairs.insert(key_of(number), Value::Int(number.wrapping_add(5000)))?;
+    }
+    let mut all = has_all(pairs, count, 5000);
+    for number in 0..count {
+        let key = number.wrapping_mul(2);
+        all = all
+            && replaced(pairs, key, number) == number.wrapping_add(5000)
+            && replaced(pairs, key.wrapping_add(1), 1) == -1;
+    }
+    Ok(all && has_all(pairs, count, 0))
+}
+
+// Whether a copy takes one more pair in front, and the map stays as it was.
+fn copy_grows(alloc: Global, pairs: &Pairs) -> Result<bool, NoMemory> {
+    let mut longer = copy_pairs(alloc, pairs)?;
+    longer.insert(Value::Int(-1), Value::Int(0))?;
+    Ok(
+        longer.len() == pairs.len().wrapping_add(1)
+            && place_of(&longer, -1) == Some(0)
+            && place_of(pairs, -1).is_none()
+            && (pairs.is_empty() || place_of(&longer, 0) == Some(1)),
+    )
+}
+
+// Whether a map of so many pairs is the same as its copy and as the map that grew in the order of its keys.
+fn is_same(alloc: Global, count: i64, value: &Value) -> Result<bool, NoMemory> {
+    let made = copy(alloc, value)?;
+    let is_copy = are_same(value, &made);
+    drop(made);
+    let rising = Value::Map(grown(alloc, count, 0, 1)?);
+    let is_rising = are_same(value, &rising);
+    drop(rising);
+    Ok(is_copy && is_rising)
+}
+
+// Whether two values compare as equal, are equal and hash alike.
+fn are_same(one: &Value, other: &Value) -> bool {
+    order(one, other) == Ordering::Equal && equal(one, other) && hash_of(one) == hash_of(other)
 }
 
 // The number that another replaces at a key, or minus that other where the key isn't there.
@@ -388,7 +550,9 @@ fn holds(alloc: Global, row: &Row) -> Result<bool, NoMemory> {
         Row::Places(text, doublings, end) => finds_places(alloc, text, *doublings, end),
         Row::Cut(text, from, to, wanted) => is_cut(alloc, text, *from, *to, wanted),
         Row::Pairs(given, wanted) => gives(alloc, given, wanted),
+        Row::PlaceOf(given, key, wanted) => has_place(alloc, given, *key, *wanted),
         Row::Falling => gives_falling(alloc),
+        Row::Grown(count, start, step) => grows(alloc, *count, *start, *step),
         Row::Replaced => replaces(alloc),
         Row::List => list_gives_back(alloc),
         Row::Slots => slots_give_back(alloc),

@@ -1,7 +1,10 @@
 -- Parts of arrays and pairs of maps, as lists.
-use Rattle.std.proofs.Common.{◌≡◌, ◌∙◌, ℕ, ◌+◌, Bool, true, false, nat_le, if◌then◌else◌, Some, None, List, [], ◌∷◌, map, length, take, drop, refl, sym, ap}
+use Rattle.std.proofs.Common.{◌≡◌, ◌∙◌, ℕ, ◌+◌, Bool, true, false, nat_le, if◌then◌else◌, Some, None, List, [], ◌∷◌, ◌++◌, map, length, take, drop, refl, sym, ap}
+use Rattle.std.specs.List.{slice_get}
+use Rattle.std.specs.Map.{keys_of}
 use Rattle.std.specs.Option.{option_map}
-use Rattle.std.proofs.lemmas.List.{length-map, drop-map, take-map}
+use Rattle.std.proofs.lemmas.List.{length-map, drop-map, take-map, take_more, map-append}
+use Rattle.std.proofs.lemmas.Option.{slice_get_within, get_or_from_slice_get}
 use Rattle.sz_value.specs.Seen.{seen}
 use Rattle.sz_value.specs.declared.value.Value.{Value}
 use Rattle.sz_builtin.specs.Places.{cut}
@@ -16,6 +19,12 @@ parts_back (d ∷ ds) = ap (λ es. d ∷ es) (parts_back ds)
 pub pairs_back : (ps : List (Datum × Datum)) → pairs_of (entries_of ps) ≡ ps
 pairs_back [] = refl
 pairs_back (p ∷ ps) = ap (λ qs. p ∷ qs) (pairs_back ps)
+
+-- the keys of a front with the next pair
+pub keys_taken : (ps : List (Datum × Datum)) (i : ℕ) (p : Datum × Datum) → slice_get ps i ≡ Some p → keys_of (take (i + 1) ps) ≡ keys_of (take i ps) ++ p.0 ∷ []
+keys_taken ps i p is =
+    ap keys_of (take_more ps i p (slice_get_within ps i p is) ∙ ap (λ q. take i ps ++ q ∷ []) (get_or_from_slice_get ps i p p is))
+    ∙ map-append (λ q. q.0) (take i ps) (p ∷ [])
 
 -- a part of the data is the data of the part
 pub cut_map : {X Y : Type 0} (f : X → Y) (xs : List X) (p : ℕ × ℕ) → cut (map f xs) p ≡ option_map (map f) (cut xs p)

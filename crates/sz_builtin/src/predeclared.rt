@@ -2,7 +2,7 @@
 ghost use Rattle.std.specs.Prelude.{◌≡◌, ◌<◌, ◌^◌, pos, length, IfOk, is_some};
 ghost use Rattle.std.specs.Map.{keys_of};
 ghost use Rattle.sz_value.specs.Maps.{value_at};
-ghost use Rattle.sz_value.specs.Seen.{seen_slot, seen_pairs};
+ghost use Rattle.sz_value.specs.Seen.{seen_slot};
 ghost use Rattle.sz_value.specs.declared.value.Value.TheVariants.{Int};
 ghost use Rattle.sz_value.specs.declared.slots.Slot.TheVariants.{Defined};
 ghost use Rattle.sz_builtin.specs.Predeclared.{len, keys, haskey};
@@ -11,7 +11,7 @@ ghost use Rattle.sz_builtin.specs.Views.{seen_view};
 use crate::characters::character_count;
 use crate::view::{Kind, View};
 use std::alloc::Global;
-use sz_value::{List, NoMemory, Pair, Pairs, Slot, Value, copy};
+use sz_value::{List, NoMemory, Pairs, Slot, Value, copy};
 
 // The number of characters, bytes, elements or pairs.
 #[tactic(auto, using(crate::proofs::Parts::parts_back, crate::proofs::Parts::pairs_back))]
@@ -22,7 +22,7 @@ pub fn len(value: &View<'_>) -> Slot
         Kind::Str(text) => count(character_count(text)),
         Kind::Bytes(octets) => count(octets.len()),
         Kind::Array(list) => count(list_len(list)),
-        Kind::Map(pairs) => count(pairs_len(pairs)),
+        Kind::Map(pairs) => count(pairs.len()),
         _ => Slot::Undefined,
     }
 }
@@ -33,14 +33,6 @@ fn list_len(list: &List) -> usize
     ensures small { result < 2 ^ 63 }
 {
     list.as_slice().len()
-}
-
-// The number of pairs.
-fn pairs_len(pairs: &Pairs) -> usize
-    ensures value { result ≡ length pairs.now }
-    ensures small { result < 2 ^ 63 }
-{
-    pairs.as_slice().len()
 }
 
 // A number of elements as a value.
@@ -57,18 +49,18 @@ pub fn keys(alloc: Global, value: &View<'_>) -> Result<Slot, NoMemory>
     ensures value { IfOk result (λ slot. seen_slot slot ≡ keys (seen_view value.now)) }
 {
     match value.kind() {
-        Kind::Map(pairs) => Ok(Slot::Defined(Value::Array(copied_keys(alloc, pairs.as_slice())?))),
+        Kind::Map(pairs) => Ok(Slot::Defined(Value::Array(copied_keys(alloc, pairs)?))),
         _ => Ok(Slot::Undefined),
     }
 }
 
 // Copies of the keys of the pairs.
-fn copied_keys(alloc: Global, pairs: &[Pair]) -> Result<List, NoMemory>
-    ensures value { IfOk result (λ list. list ≡ keys_of (seen_pairs pairs.now)) }
+fn copied_keys(alloc: Global, pairs: &Pairs) -> Result<List, NoMemory>
+    ensures value { IfOk result (λ list. list ≡ keys_of pairs.now) }
 {
     let mut list = List::with_capacity(alloc, pairs.len())?;
-    for pair in pairs {
-        list.push(copy(alloc, &pair.key)?)?;
+    for place in 0..pairs.len() {
+        list.push(copy(alloc, &pairs.pair(place).key)?)?;
     }
     Ok(list)
 }

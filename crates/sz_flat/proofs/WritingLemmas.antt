@@ -1,15 +1,15 @@
 -- What the calls that append need and give.
-use Rattle.std.proofs.Common.{◌≡◌, ◌∙◌, ℕ, zero, suc, ◌+◌, ◌<◌, ◌≤◌, get_or, take, Result, Ok, Err, List, [], ◌∷◌, ◌++◌, length, map, All, sym, ap, subst, append_assoc, arith}
+use Rattle.std.proofs.Common.{◌≡◌, ◌∙◌, ℕ, zero, suc, ◌+◌, ◌<◌, ◌≤◌, get_or, take, Some, Result, Ok, Err, List, [], ◌∷◌, ◌++◌, length, map, All, sym, ap, subst, append_assoc, arith}
 use Rattle.std.specs.Prelude.{OnOk}
-use Rattle.std.specs.List.{AllByRecursion}
+use Rattle.std.specs.List.{slice_get, AllByRecursion}
 use Rattle.std.proofs.lemmas.List.{take_more, map-append}
 use Rattle.std.proofs.lemmas.List.Elements.{All-from_recursion}
+use Rattle.std.proofs.lemmas.Option.{none-some, same_Some, slice_get_within, get_or_from_slice_get}
 use Rattle.sz_value.specs.Code.{datum_nodes, parts_nodes, pairs_nodes}
 use Rattle.sz_value.specs.Data.{Datum, array, tuple, mapping, data_of, parts_of, entries_of, pairs_of}
 use Rattle.sz_value.specs.Order.{KeysRise}
-use Rattle.sz_value.specs.Seen.{seen, seen_pair, seen_pairs}
+use Rattle.sz_value.specs.Seen.{seen}
 use Rattle.sz_value.specs.declared.value.Value.{Value}
-use Rattle.sz_value.specs.declared.value.Pair.{Pair}
 use Rattle.sz_flat.specs.Spelling.{length_bytes, spelling, spelled_parts, spelled_pairs, IsShort, HasShortLengths, HaveShortLengths, PairsHaveShortLengths, HaveSpellings, PairsHaveSpellings}
 use Rattle.sz_flat.specs.Reading.{values, pair, all_of, Adds}
 use Rattle.sz_flat.proofs.FrontLemmas.{parts_again, pairs_again, parts_spelled, pairs_spelled}
@@ -22,17 +22,6 @@ short_one_by_one (v ∷ vs) all = (all.0, short_one_by_one vs all.1)
 pub short_parts : (vs : List Value) (ds : List Datum) → map seen vs ≡ ds → HaveShortLengths (data_of ds) → All (λ v. HasShortLengths (seen v)) vs
 short_parts vs ds are all =
     All-from_recursion (λ v. HasShortLengths (seen v)) vs (short_one_by_one vs (subst (λ l. HaveShortLengths (data_of l)) (sym are) all))
-
-abbrev ShortPair : Pair → Type 0
-ShortPair p = HasShortLengths (seen p.key) × HasShortLengths (seen p.value)
-
-short_pair_by_pair : (ps : List Pair) → PairsHaveShortLengths (entries_of (map seen_pair ps)) → AllByRecursion ShortPair ps
-short_pair_by_pair [] all = tt
-short_pair_by_pair (p ∷ ps) all = ((all.0, all.1), short_pair_by_pair ps all.2)
-
--- each key and value of a list is short
-pub short_pairs : (ps : List Pair) (ds : List (Datum × Datum)) → seen_pairs ps ≡ ds → PairsHaveShortLengths (entries_of ds) → All ShortPair ps
-short_pairs ps ds are all = All-from_recursion ShortPair ps (short_pair_by_pair ps (subst (λ l. PairsHaveShortLengths (entries_of l)) (sym are) all))
 
 -- what was appended after the byte of a kind
 module _ (old now new : List ℕ) (kind : ℕ) where
@@ -94,12 +83,24 @@ part_nodes [] i v there is = absurd (omega (arith, there))
 part_nodes (w ∷ vs) zero v there is = omega (arith, ap (λ u. datum_nodes (seen u)) is)
 part_nodes (w ∷ vs) (suc i) v there is = omega (arith, part_nodes vs i v (omega (arith, there)) is)
 
-pub pair_nodes : (ps : List Pair) (i : ℕ) (p : Pair) → i < length ps → p ≡ get_or ps i p
-    → datum_nodes (seen p.key) + datum_nodes (seen p.value) ≤ pairs_nodes (map seen_pair ps)
-pair_nodes [] i p there is = absurd (omega (arith, there))
-pair_nodes (q ∷ ps) zero p there is = omega (arith, ap (λ r. datum_nodes (seen r.key)) is, ap (λ r. datum_nodes (seen r.value)) is)
-pair_nodes (q ∷ ps) (suc i) p there is = omega (arith, pair_nodes ps i p (omega (arith, there)) is)
-
 pub taken_more : {X Y : Type 0} (f : X → Y) (xs : List X) (i : ℕ) (x : X) → i < length xs → x ≡ get_or xs i x → map f (take (i + 1) xs) ≡ map f (take i xs) ++ f x ∷ []
 taken_more f xs i x there is =
     ap (map f) (take_more xs i x there ∙ ap (λ y. take i xs ++ y ∷ []) (sym is)) ∙ map-append f (take i xs) (x ∷ [])
+
+-- a pair of a list: its nodes, what is short of it, and the front up to it
+module _ (p : Datum × Datum) where
+  pub pair_nodes : (ps : List (Datum × Datum)) (i : ℕ) → slice_get ps i ≡ Some p → datum_nodes p.0 + datum_nodes p.1 ≤ pairs_nodes ps
+  pair_nodes [] i is = absurd (none-some p is)
+  pair_nodes (q ∷ ps) zero is =
+      let one = same_Some q p is in
+      omega (arith, ap (λ r. datum_nodes r.0) one, ap (λ r. datum_nodes r.1) one)
+  pair_nodes (q ∷ ps) (suc i) is = omega (arith, pair_nodes ps i is)
+
+  pub short_pair : (ps : List (Datum × Datum)) (i : ℕ) → slice_get ps i ≡ Some p → PairsHaveShortLengths (entries_of ps)
+      → HasShortLengths p.0 × HasShortLengths p.1
+  short_pair [] i is all = absurd (none-some p is)
+  short_pair (q ∷ ps) zero is all = subst (λ r. HasShortLengths r.0 × HasShortLengths r.1) (same_Some q p is) (all.0, all.1)
+  short_pair (q ∷ ps) (suc i) is all = short_pair ps i is all.2
+
+  pub pair_taken : (ps : List (Datum × Datum)) (i : ℕ) → slice_get ps i ≡ Some p → take (i + 1) ps ≡ take i ps ++ p ∷ []
+  pair_taken ps i is = take_more ps i p (slice_get_within ps i p is) ∙ ap (λ q. take i ps ++ q ∷ []) (get_or_from_slice_get ps i p p is)

@@ -3,14 +3,14 @@ ghost use Rattle.std.specs.Prelude.{◌≡◌, ◌∷◌, ◌++◌, length, map,
 ghost use Rattle.sz_value.specs.Data as facts;
 ghost use Rattle.sz_value.specs.Data.{data_of, entries_of};
 ghost use Rattle.sz_value.specs.Order.{KeysRise};
-ghost use Rattle.sz_value.specs.Seen.{seen, seen_pairs};
+ghost use Rattle.sz_value.specs.Seen.{seen};
 ghost use Rattle.sz_flat.specs.Spelling.{Spells, spelling, spelled_parts, spelled_pairs, length_bytes, number_bytes, counted_bytes, IsShort, HasShortLengths, HaveShortLengths, PairsHaveShortLengths, HaveSpellings, PairsHaveSpellings};
 ghost use Rattle.sz_flat.specs.Lists.{SpellsAll};
 ghost use Rattle.sz_flat.specs.Reading.{Adds, values, pair, all_of};
 
 use crate::NoMemory;
 use std::alloc::Global;
-use sz_value::{List, Octets, Pair, Pairs, Value};
+use sz_value::{List, Octets, Pairs, Value};
 
 /// The bytes that spell the value: one for its kind, and after it its number, its bytes or its parts. Numbers and lengths have
 /// their high byte first.
@@ -79,7 +79,7 @@ fn spell_map(pairs: &Pairs, out: &mut Vec<u8>) -> Result<(), NoMemory>
     ensures value { OnOk result (out.new.items ≡ out.old.items ++ (8 ∷ length_bytes (length pairs.now) ++ spelled_pairs (entries_of pairs.now))) }
 {
     spell_length(8, pairs.len(), out)?;
-    spell_pairs(pairs.as_slice(), out)
+    spell_pairs(pairs, out)
 }
 
 // Appends the spelling of each part.
@@ -96,11 +96,12 @@ pub(crate) fn spell_parts(parts: &[Value], out: &mut Vec<u8>) -> Result<(), NoMe
 
 // Appends the spelling of each key and its value.
 #[cycle(spell)]
-fn spell_pairs(pairs: &[Pair], out: &mut Vec<u8>) -> Result<(), NoMemory>
-    requires short { All (λ p. HasShortLengths (seen p.key) × HasShortLengths (seen p.value)) pairs.now }
-    ensures value { OnOk result (Adds (all_of pair (length pairs.now)) out.old.items out.new.items (seen_pairs pairs.now)) }
+fn spell_pairs(pairs: &Pairs, out: &mut Vec<u8>) -> Result<(), NoMemory>
+    requires short { PairsHaveShortLengths (entries_of pairs.now) }
+    ensures value { OnOk result (Adds (all_of pair (length pairs.now)) out.old.items out.new.items pairs.now) }
 {
-    for pair in pairs {
+    for place in 0..pairs.len() {
+        let pair = pairs.pair(place);
         spell(&pair.key, out)?;
         spell(&pair.value, out)?;
     }

@@ -1,16 +1,16 @@
 -- Candidates that are numbers, or the keys of a map from a place on.
-use Rattle.std.proofs.Common.{◌≡◌, ◌∙◌, ◌==◌, ℕ, zero, suc, ◌+◌, ◌-◌, ◌<◌, ◌≤◌, nat_le, pos, List, [], ◌∷◌, length, take, drop, Bool, true, false, Some, None, unwrap_or, refl, sym, ap, arith}
+use Rattle.std.proofs.Common.{◌≡◌, ◌∙◌, ◌==◌, ℕ, zero, suc, ◌+◌, ◌-◌, ◌<◌, ◌≤◌, nat_le, pos, List, [], ◌∷◌, ◌++◌, length, map, drop, reverse, Bool, true, false, Some, None, unwrap_or, refl, sym, ap, arith}
 use Rattle.std.specs.Prelude.{slice_get, option_map}
 use Rattle.std.specs.Map.{keys_of}
-use Rattle.std.proofs.lemmas.List.{take_rest}
+use Rattle.std.proofs.lemmas.List.{map-append, append_assoc, append-nil, drop_all}
 use Rattle.std.proofs.Math.Dec.{leb-zero, leb-suc-zero, leb-suc-suc, eqb-suc-zero}
 use Rattle.sz_value.specs.Data.{Datum, int, array, data_of}
-use Rattle.sz_value.specs.Seen.{seen, seen_pairs}
+use Rattle.sz_value.specs.Seen.{seen}
 use Rattle.sz_value.specs.declared.value.Value.{Value}
-use Rattle.sz_value.specs.declared.value.Pair.{Pair}
 use Rattle.sz_world_rules.specs.Candidates.{candidates, numbers_from}
 use Rattle.sz_machine_cells.specs.Candidates.{numbers_of}
 use Rattle.sz_builtin.proofs.Parts.{parts_back}
+use Rattle.sz_machine_cells.proofs.ListLemmas.{keys_back}
 
 -- the candidates of an array
 pub of_array : (slice : Bool) (ds : List Datum) → candidates slice (Some (array (data_of ds))) ≡ numbers_of slice (length ds)
@@ -47,30 +47,27 @@ none_after [] (suc n) = leb-zero (suc n)
 none_after (k ∷ ks) zero = leb-suc-zero (length ks) ∙ sym (eqb-suc-zero (length ks))
 none_after (k ∷ ks) (suc n) = leb-suc-suc (length ks) n ∙ none_after ks n
 
--- the keys of the pairs from a place on
-pub keys_dropped : (ps : List Pair) (n : ℕ) → keys_of (seen_pairs (take (length ps - n) (drop n ps))) ≡ drop n (keys_of (seen_pairs ps))
-keys_dropped ps n = ap (λ qs. keys_of (seen_pairs qs)) (take_rest ps n) ∙ dropped ps n
-  where
-    dropped : (qs : List Pair) (m : ℕ) → keys_of (seen_pairs (drop m qs)) ≡ drop m (keys_of (seen_pairs qs))
-    dropped [] zero = refl
-    dropped [] (suc m) = refl
-    dropped (q ∷ qs) zero = refl
-    dropped (q ∷ qs) (suc m) = dropped qs m
-
 -- a map has as many keys as pairs
-pub keys_count : (ps : List Pair) → length (keys_of (seen_pairs ps)) ≡ length ps
+pub keys_count : (ps : List (Datum × Datum)) → length (keys_of ps) ≡ length ps
 keys_count [] = refl
 keys_count (p ∷ ps) = ap suc (keys_count ps)
-
--- no keys are left after all pairs
-pub no_keys_from : (ps : List Pair) (n : ℕ) → length ps ≤ n → drop n (keys_of (seen_pairs ps)) ≡ []
-no_keys_from [] zero h = refl
-no_keys_from [] (suc n) h = refl
-no_keys_from (p ∷ ps) zero h = absurd (omega (arith, h))
-no_keys_from (p ∷ ps) (suc n) h = no_keys_from ps n (omega (arith, h))
 
 -- the key at a place is that of the pair there
 pub key_nth : (ps : List (Datum × Datum)) (n : ℕ) → option_map (λ p. p.0) (slice_get ps n) ≡ slice_get (keys_of ps) n
 key_nth [] n = refl
 key_nth (p ∷ ps) zero = refl
 key_nth (p ∷ ps) (suc n) = key_nth ps n
+
+-- a key that is copied is no more among those that are left
+pub key_copied : (vs : List Value) (v : Value) (ps : List (Datum × Datum)) (p : Datum × Datum) (n : ℕ) → slice_get ps n ≡ Some p → seen v ≡ p.0
+    → map seen (vs ++ v ∷ []) ++ drop (n + 1) (keys_of ps) ≡ map seen vs ++ drop n (keys_of ps)
+key_copied vs v ps p n at copied =
+    let here : Some (seen v) ≡ slice_get (keys_of ps) n = ap Some copied ∙ sym (ap (option_map (λ q. q.0)) at) ∙ key_nth ps n in
+    rw (map-append, append_assoc) (ap (λ ks. map seen vs ++ ks) (sym (key_after (keys_of ps) n v here)))
+
+-- after the last pair all keys are copied, and turned round twice
+pub all_copied : (vs : List Value) (ps : List (Datum × Datum)) (n : ℕ) → length ps ≤ n
+    → reverse (map seen (reverse vs)) ≡ map seen vs ++ drop n (keys_of ps)
+all_copied vs ps n past =
+    let none : drop n (keys_of ps) ≡ [] = drop_all n (keys_of ps) (omega (arith, past, keys_count ps)) in
+    keys_back vs ∙ sym (ap (λ ks. map seen vs ++ ks) none ∙ append-nil (map seen vs))

@@ -1,18 +1,13 @@
 //! At which place among the parts of a value an index or a key leads.
-ghost use Rattle.std.specs.Prelude.{◌≡◌, pos, length, IfOk, IfSome};
-ghost use Rattle.std.specs.List.Sorted.{IsSearchInRange};
+ghost use Rattle.std.specs.Prelude.{◌≡◌, pos, IfOk, IfSome};
 ghost use Rattle.sz_value.specs.Data.{mapping, entries_of};
-ghost use Rattle.sz_value.specs.Seen.{seen, seen_pairs};
-ghost use Rattle.sz_value.specs.Order.{KeysRise};
-ghost use Rattle.sz_value.specs.Maps.{value_at};
-ghost use Rattle.sz_value.specs.Places.{IsPlaceOf};
 ghost use Rattle.sz_builtin.specs.Places.{index};
 ghost use Rattle.sz_builtin.specs.Views.{seen_view};
-ghost use Rattle.sz_machine_cells.specs.Nested.{nth, value_nth};
+ghost use Rattle.sz_machine_cells.specs.Nested.{nth};
 
 use std::alloc::Global;
 use sz_builtin::{Kind, View};
-use sz_value::{NoMemory, Pair, Pairs, Value, order};
+use sz_value::{NoMemory, Pairs};
 
 /// The place among the parts of a value to which an index or a key leads, if the value has such parts. There may be no part at the
 /// place of an index.
@@ -38,35 +33,11 @@ fn from_front(n: i64) -> Option<usize>
 }
 
 // The place of the pair with this key, if there is one.
-#[tactic(auto, using(sz_builtin::proofs::Parts::pairs_back))]
+#[tactic(auto, using(sz_builtin::proofs::Parts::pairs_back, crate::proofs::NestedLemmas::key_there))]
 fn place_of_key(alloc: Global, pairs: &Pairs, key: &View<'_>) -> Result<Option<usize>, NoMemory>
     ensures value { IfOk result (λ place. IfSome place (λ n.
         nth n (mapping (entries_of pairs.now)) ≡ index (mapping (entries_of pairs.now)) (seen_view key.now))) }
 {
     let key = key.lent(alloc)?;
-    match found(pairs.as_slice(), key.value()) {
-        Some(place) => Ok(Some(place)),
-        None => Ok(None),
-    }
-}
-
-// The same of a key at hand.
-#[tactic(auto, using(crate::proofs::NestedLemmas::key_there))]
-fn found(pairs: &[Pair], key: &Value) -> Option<usize>
-    requires rising { KeysRise (seen_pairs pairs.now) }
-    ensures value { IfSome result (λ n. value_nth n (seen_pairs pairs.now) ≡ value_at (seen key.now) (seen_pairs pairs.now)) }
-{
-    match place_of(pairs, key) {
-        Ok(place) => Some(place),
-        Err(_) => None,
-    }
-}
-
-// Where the key is, or where it would go, by halving.
-fn place_of(pairs: &[Pair], key: &Value) -> Result<usize, usize>
-    requires rising { KeysRise (seen_pairs pairs.now) }
-    ensures within { IsSearchInRange result (length pairs.now) }
-    ensures found { IfOk result (λ place. IsPlaceOf (seen key.now) place (seen_pairs pairs.now)) }
-{
-    pairs.binary_search_by(|pair| order(&pair.key, key))
+    Ok(pairs.place_of(key.value()))
 }

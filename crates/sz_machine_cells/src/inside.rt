@@ -122,8 +122,9 @@ fn item(list: &List, n: usize) -> Option<&Value>
 fn value_of_nth(pairs: &Pairs, n: usize) -> Option<&Value>
     ensures value { option_map (λ value. seen value.now) result ≡ value_nth n pairs.now }
 {
-    match pairs.as_slice().get(n) {
-        Some(pair) => Some(&pair.value),
-        None => None,
+    if n < pairs.len() {
+        Some(&pairs.pair(n).value)
+    } else {
+        None
     }
 }

@@ -1,7 +1,7 @@
 //! Keys of a map that is shared as it was.
-ghost use Rattle.std.specs.Prelude.{◌≡◌, ◌∷◌, [], ◌<◌, ◌^◌, ◌==◌, length, map, reverse, drop, slice_get, option_map, IfOk, IfSome, IfNone, OnErr, Some};
+ghost use Rattle.std.specs.Prelude.{◌≡◌, ◌∷◌, [], ◌<◌, ◌^◌, ◌+◌, ◌==◌, length, map, reverse, drop, slice_get, option_map, IfOk, IfSome, IfNone, OnErr, Some};
 ghost use Rattle.std.specs.Map.{keys_of};
-ghost use Rattle.sz_value.specs.Seen.{seen, seen_pairs};
+ghost use Rattle.sz_value.specs.Seen.{seen};
 ghost use Rattle.sz_builtin.specs.Views.{seen_view};
 ghost use Rattle.sz_machine_cells.specs.MapKeys.{keys_in};
 
@@ -9,7 +9,7 @@ use crate::cell::{Cell, Form};
 use std::alloc::Global;
 use std::marker::Model;
 use sz_builtin::{Kind, View};
-use sz_value::{NoMemory, Pair, Pairs, Value, copy};
+use sz_value::{NoMemory, Pairs, Value, copy};
 
 /// A map, which is shared, and the place of the next of its keys.
 ///
@@ -102,7 +102,7 @@ fn count_in(base: &View<'_>) -> usize
     ensures value { result ≡ length (keys_in (Some (seen_view base.now))) }
 {
     match base.kind() {
-        Kind::Map(pairs) => pairs.as_slice().len(),
+        Kind::Map(pairs) => pairs.len(),
         _ => 0,
     }
 }
@@ -110,7 +110,7 @@ fn count_in(base: &View<'_>) -> usize
 // A copy of the key at a place of a map, if there is one.
 fn key_at(alloc: Global, base: &Cell<'_>, n: usize) -> Result<Option<Value>, NoMemory>
     ensures value { IfOk result (λ key. option_map seen key ≡ slice_get (keys_in base.now) n) }
-    ensures small { IfOk result (λ key. IfSome key (λ _. n < 2 ^ 63)) }
+    ensures small { IfOk result (λ key. IfSome key (λ _. n + 1 < 2 ^ 64)) }
 {
     match base.view() {
         Some(view) => key_in(alloc, &view, n),
@@ -122,7 +122,7 @@ fn key_at(alloc: Global, base: &Cell<'_>, n: usize) -> Result<Option<Value>, NoM
 #[tactic(auto, using(sz_builtin::proofs::Parts::pairs_back))]
 fn key_in(alloc: Global, base: &View<'_>, n: usize) -> Result<Option<Value>, NoMemory>
     ensures value { IfOk result (λ key. option_map seen key ≡ slice_get (keys_in (Some (seen_view base.now))) n) }
-    ensures small { IfOk result (λ key. IfSome key (λ _. n < 2 ^ 63)) }
+    ensures small { IfOk result (λ key. IfSome key (λ _. n + 1 < 2 ^ 64)) }
 {
     match base.kind() {
         Kind::Map(pairs) => nth_key(alloc, pairs, n),
@@ -134,7 +134,7 @@ fn key_in(alloc: Global, base: &View<'_>, n: usize) -> Result<Option<Value>, NoM
 #[tactic(auto, using(crate::proofs::CandidateLemmas::key_nth))]
 fn nth_key(alloc: Global, pairs: &Pairs, n: usize) -> Result<Option<Value>, NoMemory>
     ensures value { IfOk result (λ key. option_map seen key ≡ slice_get (keys_of pairs.now) n) }
-    ensures small { IfOk result (λ key. IfSome key (λ _. n < 2 ^ 63)) }
+    ensures small { IfOk result (λ key. IfSome key (λ _. n + 1 < 2 ^ 64)) }
 {
     match nth_lent(pairs, n) {
         Some(key) => Ok(Some(copy(alloc, key)?)),
@@ -145,11 +145,12 @@ fn nth_key(alloc: Global, pairs: &Pairs, n: usize) -> Result<Option<Value>, NoMe
 // The key at a place of pairs.
 fn nth_lent(pairs: &Pairs, n: usize) -> Option<&Value>
     ensures value { option_map (λ key. seen key.now) result ≡ option_map (λ p. p.0) (slice_get pairs.now n) }
-    ensures small { IfSome result (λ _. n < 2 ^ 63) }
+    ensures small { IfSome result (λ _. n + 1 < 2 ^ 64) }
 {
-    match pairs.as_slice().get(n) {
-        Some(pair) => Some(&pair.key),
-        None => None,
+    if n < pairs.len() {
+        Some(&pairs.pair(n).key)
+    } else {
+        None
     }
 }
 
@@ -175,26 +176,14 @@ fn view_keys(alloc: Global, base: &View<'_>, n: usize) -> Result<Vec<Value>, NoM
 }
 
 // The same, of pairs.
-#[tactic(auto, using(crate::proofs::CandidateLemmas::no_keys_from))]
+#[tactic(auto, using(crate::proofs::CandidateLemmas::key_copied, crate::proofs::CandidateLemmas::all_copied))]
 fn pair_keys(alloc: Global, pairs: &Pairs, n: usize) -> Result<Vec<Value>, NoMemory>
     ensures value { IfOk result (λ made. reverse (map seen made.items) ≡ drop n (keys_of pairs.now)) }
 {
-    let all = pairs.as_slice();
-    if n >= all.len() {
-        return Ok(Vec::new(alloc));
+    let mut keys = Vec::with_capacity(alloc, pairs.len().saturating_sub(n))?;
+    for place in n..pairs.len() {
+        keys.push(copy(alloc, &pairs.pair(place).key)?)?;
     }
-    let mut keys = copied_keys(alloc, &all[n..])?;
     keys.reverse();
-    Ok(keys)
-}
-
-// Copies of the keys of the pairs.
-fn copied_keys(alloc: Global, pairs: &[Pair]) -> Result<Vec<Value>, NoMemory>
-    ensures value { IfOk result (λ made. map seen made.items ≡ keys_of (seen_pairs pairs.now)) }
-{
-    let mut keys = Vec::with_capacity(alloc, pairs.len())?;
-    for pair in pairs {
-        keys.push(copy(alloc, &pair.key)?)?;
-    }
     Ok(keys)
 }

@@ -63,19 +63,19 @@ fn push_map(pairs: &Pairs, out: &mut Vec<u8>) -> Result<(), NoMemory>
         return Ok(());
     }
     out.push(b'{')?;
-    push_pairs(pairs.as_slice(), out)?;
+    push_pairs(pairs, out)?;
     out.push(b'}')?;
     Ok(())
 }
 
 // Appends the pairs with a comma between them.
 #[cycle(push)]
-fn push_pairs(pairs: &[Pair], out: &mut Vec<u8>) -> Result<(), NoMemory>
-    ensures value { OnOk result (out.new.items ≡ out.old.items ++ joined (λ p. pair_text (seen_pair p)) pairs.now) }
+fn push_pairs(pairs: &Pairs, out: &mut Vec<u8>) -> Result<(), NoMemory>
+    ensures value { OnOk result (out.new.items ≡ out.old.items ++ joined pair_text pairs.now) }
 {
-    for (at, pair) in pairs.iter().enumerate() {
-        push_comma(at, out)?;
-        push_pair(pair, out)?;
+    for place in 0..pairs.len() {
+        push_comma(place, out)?;
+        push_pair(pairs.pair(place), out)?;
     }
     Ok(())
 }

@@ -1,6 +1,9 @@
 pub mod OrderLemmas
 pub mod WeightLemmas
 pub mod MapLemmas
+pub mod PlaceLemmas
+pub mod RunLemmas
+pub mod HalfLemmas
 pub mod GatherLemmas
 pub mod PartLemmas
 pub mod HashLemmas

@@ -21,7 +21,7 @@ pub turned : (d e : Datum) (found : Ordering) → compare d e ≡ found → comp
 turned d e found is = compare_total.antisymm e d ∙ ap ordering_reverse is
 
 -- what is less than the lesser stands no later against a third
-index_rises : (a b k : Datum) → compare a b ≡ Less → (found : Ordering) → compare b k ≡ found → ordering_index (compare a k) ≤ ordering_index found
+pub index_rises : (a b k : Datum) → compare a b ≡ Less → (found : Ordering) → compare b k ≡ found → ordering_index (compare a k) ≤ ordering_index found
 index_rises a b k less Less is = rw (compare_total.trans a b k less is) (omega arith)
 index_rises a b k less Equal is = rw (subst (λ x. compare a x ≡ Less) (compare_ties b k is) less) (omega arith)
 index_rises a b k less Greater is = index_at_most (compare a k)
@@ -111,7 +111,7 @@ module _ (k : Datum) where
 
 module _ (k v : Datum) where
   -- the choice that the new list of pairs makes, by how the key compares with the first
-  abbrev chosen : (Datum × Datum) → List (Datum × Datum) → Ordering → List (Datum × Datum)
+  abbrev pub chosen : (Datum × Datum) → List (Datum × Datum) → Ordering → List (Datum × Datum)
   chosen p ps o = match_ordering o ((k, v) ∷ p ∷ ps) ((p.0, v) ∷ ps) (p ∷ with_pair k v ps)
 
   -- writing over the pair at the place of its key

@@ -17,7 +17,8 @@ compare_data-slice_cmp [] (e ∷ es) = refl
 compare_data-slice_cmp (d ∷ ds) [] = refl
 compare_data-slice_cmp (d ∷ ds) (e ∷ es) = ap (ordering_then (compare d e)) (compare_data-slice_cmp ds es)
 
-then_assoc : (a b c : Ordering) → ordering_then a (ordering_then b c) ≡ ordering_then (ordering_then a b) c
+-- one comparison after another
+pub then_assoc : (a b c : Ordering) → ordering_then a (ordering_then b c) ≡ ordering_then (ordering_then a b) c
 then_assoc Less b c = refl
 then_assoc Equal b c = refl
 then_assoc Greater b c = refl

@@ -12,5 +12,6 @@ pub mod Code
 pub mod Falls
 pub mod Total
 pub mod Places
+pub mod Runs
 pub mod Forms
 pub mod Hashing

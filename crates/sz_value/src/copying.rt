@@ -38,14 +38,16 @@ pub fn copy_list(alloc: Global, list: &List) -> Result<List, NoMemory>
 
 /// A copy of the pairs.
 #[cycle(copy)]
+#[tactic(auto, using(crate::proofs::PlaceLemmas::pair_fewer))]
 pub fn copy_pairs(alloc: Global, pairs: &Pairs) -> Result<Pairs, NoMemory>
     ensures value { IfOk result (λ made. made ≡ pairs.now) }
 {
-    let mut made = Vec::with_capacity(alloc, pairs.pairs.len())?;
-    for pair in &pairs.pairs {
-        made.push(copy_pair(alloc, pair)?)?;
+    let count = pairs.len();
+    let mut made = Vec::with_capacity(alloc, count)?;
+    for place in 0..count {
+        made.push(copy_pair(alloc, pairs.pair(place))?)?;
     }
-    Ok(Pairs { pairs: made })
+    Pairs::in_one_run(alloc, made)
 }
 
 // A copy of a key and its value.

@@ -50,11 +50,12 @@ fn feed_list<H: Hasher>(list: &List, state: &mut H)
 
 // Feeds each key and its value, and 8 at the end.
 #[cycle(hash)]
+#[tactic(auto, using(crate::proofs::PlaceLemmas::pair_fewer))]
 fn feed_pairs<H: Hasher>(pairs: &Pairs, state: &mut H)
     ensures value { state.new ≡ fold H.write state.old (entries_writes (entries_of pairs.now)) }
 {
-    for pair in &pairs.pairs {
-        feed_pair(pair, state);
+    for place in 0..pairs.len() {
+        feed_pair(pairs.pair(place), state);
     }
     8u8.hash(state);
 }

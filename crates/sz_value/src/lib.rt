@@ -12,6 +12,8 @@ mod marked;
 mod octets;
 mod ordering;
 mod pairs;
+mod run;
+mod runs;
 mod slots;
 mod text;
 mod value;

@@ -51,17 +51,17 @@ fn order_lists(a: &List, b: &List) -> Ordering
 
 // Compares two maps by the first pairs that differ; a front comes first.
 #[cycle(order)]
-#[tactic(auto, using(crate::proofs::OrderLemmas::pairs_end))]
+#[tactic(auto, using(crate::proofs::OrderLemmas::pairs_end, crate::proofs::PlaceLemmas::pair_fewer))]
 fn order_maps(a: &Pairs, b: &Pairs) -> Ordering
     ensures value { result ≡ compare_entries (entries_of a.now) (entries_of b.now) }
 {
-    for i in 0..a.pairs.len().min(b.pairs.len()) {
-        let found = order_pairs(&a.pairs[i], &b.pairs[i]);
+    for i in 0..a.len().min(b.len()) {
+        let found = order_pairs(a.pair(i), b.pair(i));
         if found.is_ne() {
             return found;
         }
     }
-    a.pairs.len().cmp(&b.pairs.len())
+    a.len().cmp(&b.len())
 }
 
 // Compares the keys, and where they are equal the values.

@@ -1,17 +1,20 @@
 //! The calls of the pairs of a map.
-ghost use Rattle.std.specs.Prelude.{◌≡◌, ◌==◌, [], length, IfOk, IfErr, OnOk, OnErr, IsOk, IsSome, Some, None};
-ghost use Rattle.std.specs.List.Sorted.{IsSearchInRange};
+ghost use Rattle.std.specs.Prelude.{◌≡◌, ◌==◌, ◌<◌, ◌^◌, [], length, slice_get, IfOk, IfErr, IfSome, IfNone, OnOk, OnErr, IsOk, IsSome, Some, None};
 ghost use Rattle.std.specs.Option.{option_map};
-ghost use Rattle.sz_value.specs.Seen.{seen, seen_pairs};
+ghost use Rattle.sz_value.specs.Seen.{seen, seen_pair, seen_pairs};
 ghost use Rattle.sz_value.specs.Order.{KeysRise};
 ghost use Rattle.sz_value.specs.Maps.{value_at, with_pair, with_pairs};
-ghost use Rattle.sz_value.specs.Places.{IsPlaceOf, IsGapFor};
+ghost use Rattle.sz_value.specs.Places.{IsPlaceOf};
 
 use crate::NoMemory;
 use crate::ordering::order;
+use crate::run::put_in;
+use crate::runs::{pair_at, place_in, put, replace, value_in};
 use crate::value::{Pair, Pairs, Value};
 use std::alloc::Global;
-use std::mem;
+
+// No more pairs than a list can have.
+const MOST: usize = isize::MAX as usize;
 
 impl Pairs {
     /// No pairs, which takes no memory. They keep the allocator for their calls.
@@ -19,7 +22,8 @@ impl Pairs {
         ensures value { result ≡ [] }
     {
         Pairs {
-            pairs: Vec::new(alloc),
+            runs: Vec::new(alloc),
+            count: 0,
         }
     }
 
@@ -28,40 +32,60 @@ impl Pairs {
     pub fn from_pairs(alloc: Global, pairs: Vec<Pair>) -> Result<Pairs, NoMemory>
         ensures value { IfOk result (λ made. made ≡ with_pairs [] (seen_pairs pairs.items)) }
     {
-        let pairs = gathered(alloc, sorted(pairs)?)?;
-        Ok(Pairs { pairs })
+        Pairs::in_one_run(alloc, gathered(alloc, sorted(pairs)?)?)
     }
 
-    /// The pairs, in ascending order of their keys.
-    pub fn as_slice(&self) -> &[Pair]
-        ensures value { seen_pairs result.now ≡ self.now }
-        ensures rising { KeysRise self.now }
+    // Pairs whose keys rise.
+    pub(crate) fn in_one_run(alloc: Global, pairs: Vec<Pair>) -> Result<Pairs, NoMemory>
+        requires rising { KeysRise (seen_pairs pairs.items) }
+        ensures value { IfOk result (λ made. made ≡ seen_pairs pairs.items) }
     {
-        self.pairs.as_slice()
+        let count = pairs.len();
+        if count == 0 {
+            return Ok(Pairs::new(alloc));
+        }
+        let mut runs = Vec::with_capacity(alloc, 1)?;
+        runs.push(pairs)?;
+        Ok(Pairs { runs, count })
     }
 
-    /// The number of pairs.
+    /// The number of pairs. Their keys are in ascending order.
     pub fn len(&self) -> usize
         ensures value { result ≡ length self.now }
+        ensures rising { KeysRise self.now }
+        ensures small { result < 2 ^ 63 }
     {
-        self.pairs.len()
+        self.count
     }
 
     /// Whether there are no pairs.
     pub fn is_empty(&self) -> bool
         ensures value { result ≡ (length self.now == 0) }
     {
-        self.pairs.is_empty()
+        self.count == 0
+    }
+
+    /// The pair at a place.
+    pub fn pair(&self, place: usize) -> &Pair
+        requires within { place < length self.now }
+        ensures value { slice_get self.now place ≡ Some (seen_pair result.now) }
+    {
+        pair_at(&self.runs, place).unwrap()
+    }
+
+    /// The place of the pair with this key, if there is one.
+    pub fn place_of(&self, key: &Value) -> Option<usize>
+        ensures found { IfSome result (λ place. IsPlaceOf (seen key.now) place self.now) }
+        ensures none { IfNone result (value_at (seen key.now) self.now ≡ None) }
+    {
+        place_in(&self.runs, key)
     }
 
     /// The value at a key, if the key is there.
     pub fn get(&self, key: &Value) -> Option<&Value>
         ensures value { option_map (λ found. seen found.now) result ≡ value_at (seen key.now) self.now }
     {
-        match place_of(&self.pairs, key) {
-            Ok(place) => Some(&self.pairs[place].value),
-            Err(_) => None,
-        }
+        value_in(&self.runs, key)
     }
 
     /// Puts the value at the key: in the stead of the value there, which is dropped, or as a new pair at its place in
@@ -73,7 +97,9 @@ impl Pairs {
         // A key that is there already needs no memory.
         ensures room { IsSome (value_at (seen key) self.old) → IsOk result }
     {
-        put_in(&mut self.pairs, key, value)
+        let added = put(&mut self.runs, key, value, MOST - self.count)?;
+        self.count += added;
+        Ok(())
     }
 
     /// Puts the value in the stead of that at the key, and gives that one back. Where the key isn't there the value
@@ -85,18 +111,8 @@ impl Pairs {
         ensures err { OnErr result (self.new ≡ self.old) }
         ensures none { IfErr result (λ given. (given ≡ value) × (value_at (seen key.now) self.old ≡ None)) }
     {
-        replace_in(&mut self.pairs, key, value)
+        replace(&mut self.runs, key, value)
     }
-}
-
-// Where the key is, or where it would go, by halving.
-fn place_of(pairs: &[Pair], key: &Value) -> Result<usize, usize>
-    requires rising { KeysRise (seen_pairs pairs.now) }
-    ensures within { IsSearchInRange result (length pairs.now) }
-    ensures found { IfOk result (λ place. IsPlaceOf (seen key.now) place (seen_pairs pairs.now)) }
-    ensures none { IfErr result (λ place. IsGapFor (seen key.now) place (seen_pairs pairs.now)) }
-{
-    pairs.binary_search_by(|pair| order(&pair.key, key))
 }
 
 // The pairs in ascending order of their keys, those of one key in the order in which they came.
@@ -114,39 +130,7 @@ fn gathered(alloc: Global, pairs: Vec<Pair>) -> Result<Vec<Pair>, NoMemory>
 {
     let mut made = Vec::with_capacity(alloc, pairs.len())?;
     for pair in pairs {
-        put_in(&mut made, pair.key, pair.value)?;
+        put_in(&mut made, pair.key, pair.value, MOST)?;
     }
     Ok(made)
-}
-
-// Puts the value at the key, as `Pairs::insert` does.
-fn put_in(pairs: &mut Vec<Pair>, key: Value, value: Value) -> Result<(), NoMemory>
-    requires rising { KeysRise (seen_pairs pairs.old.items) }
-    ensures rising { KeysRise (seen_pairs pairs.new.items) }
-    ensures ok { OnOk result (seen_pairs pairs.new.items ≡ with_pair (seen key) (seen value) (seen_pairs pairs.old.items)) }
-    ensures err { OnErr result (pairs.new.items ≡ pairs.old.items) }
-    ensures room { IsSome (value_at (seen key) (seen_pairs pairs.old.items)) → IsOk result }
-{
-    match place_of(pairs, &key) {
-        Ok(place) => {
-            pairs[place] = Pair { key, value };
-            Ok(())
-        }
-        Err(place) => Ok(pairs.insert(place, Pair { key, value })?),
-    }
-}
-
-// Puts the value in the stead of that at the key, as `Pairs::replace` does.
-fn replace_in(pairs: &mut Vec<Pair>, key: &Value, value: Value) -> Result<Value, Value>
-    requires rising { KeysRise (seen_pairs pairs.old.items) }
-    ensures rising { KeysRise (seen_pairs pairs.new.items) }
-    ensures ok { OnOk result (seen_pairs pairs.new.items ≡ with_pair (seen key.now) (seen value) (seen_pairs pairs.old.items)) }
-    ensures found { IfOk result (λ old. value_at (seen key.now) (seen_pairs pairs.old.items) ≡ Some (seen old)) }
-    ensures err { OnErr result (pairs.new.items ≡ pairs.old.items) }
-    ensures none { IfErr result (λ given. (given ≡ value) × (value_at (seen key.now) (seen_pairs pairs.old.items) ≡ None)) }
-{
-    match place_of(pairs, key) {
-        Ok(place) => Ok(mem::replace(&mut pairs[place].value, value)),
-        Err(_) => Err(value),
-    }
 }

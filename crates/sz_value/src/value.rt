@@ -1,7 +1,6 @@
 //! Values, and the lists and maps inside them.
 ghost use Rattle.std.specs.Prelude.{◌≡◌, map};
-ghost use Rattle.sz_value.specs.Seen.{seen, seen_pairs};
-ghost use Rattle.sz_value.specs.Order.{KeysRise};
+ghost use Rattle.sz_value.specs.Seen.{seen};
 
 use crate::octets::Octets;
 use crate::text::Text;
@@ -76,28 +75,19 @@ pub struct Pair {
 
 /// The pairs of a map, in ascending order of their keys, no two of which are equal. Places are counted from 0.
 ///
-/// Contracts see the list of the keys and values as plain data.
+/// They lie in runs, one after the other, so that a new pair moves those of one run alone. Contracts see the list of the keys
+/// and values as plain data.
 #[cycle(value)]
 #[derive(Debug)]
 pub struct Pairs {
-    pub(crate) pairs: Vec<Pair>,
+    pub(crate) runs: Vec<Vec<Pair>>,
+    pub(crate) count: usize,
 }
 
 impl Drop for Pairs {
     #[cycle(drop)]
     fn drop(self) {
-        let Pairs { pairs: _ } = self;
-    }
-}
-
-impl Pairs {
-    /// Gives the pairs back, in ascending order of their keys, and takes no memory.
-    pub fn into_vec(self) -> Vec<Pair>
-        ensures value { seen_pairs result.items ≡ self }
-        ensures rising { KeysRise self }
-    {
-        let Self { pairs } = self;
-        pairs
+        let Pairs { runs: _, count: _ } = self;
     }
 }
 
@@ -123,6 +113,7 @@ impl Model for List {
 
 impl Model for Pairs {
     ghost use Rattle.std.specs.Prelude as std;
+    ghost use Rattle.std.specs.Prelude.{◌≡◌, ◌<◌, ◌^◌};
     ghost use Rattle.sz_value.specs.Data.{Datum};
     ghost use Rattle.sz_value.specs.Code.{pairs_code, pairs_nodes};
 
@@ -130,16 +121,16 @@ impl Model for Pairs {
 
     ghost coded = { pairs_code };
 
-    ghost use Rattle.sz_value.specs.Order.{KeysRise};
-    ghost use Rattle.sz_value.specs.Seen.{seen_pair};
+    ghost use Rattle.sz_value.specs.Seen.{seen_runs};
+    ghost use Rattle.sz_value.specs.Runs.{AreRuns};
 
-    ghost view = { λ pairs. std.map seen_pair pairs.pairs.items };
+    ghost view = { λ pairs. seen_runs pairs.runs.items };
 
-    ghost invariant = { λ pairs. KeysRise (std.map seen_pair pairs.pairs.items) };
+    ghost invariant = { λ pairs. AreRuns pairs.runs.items × (pairs.count ≡ std.length (seen_runs pairs.runs.items)) × (pairs.count < 2 ^ 63) };
 
     ghost size = { pairs_nodes };
 
-    ghost use Rattle.sz_value.specs.Falls.{most_le-pairs};
+    ghost use Rattle.sz_value.specs.Falls.{most_le-runs};
 
-    ghost size_decreases = { λ pairs h. most_le-pairs pairs.pairs.items };
+    ghost size_decreases = { λ pairs h. most_le-runs pairs.runs.items };
 }

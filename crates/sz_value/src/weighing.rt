@@ -38,12 +38,13 @@ fn weight_of_list(list: &List) -> u64
 
 // The weights of all keys and values.
 #[cycle(weight)]
-#[tactic(auto, using(crate::proofs::WeightLemmas::pairs_weighed))]
+#[tactic(auto, using(crate::proofs::WeightLemmas::pairs_weighed, crate::proofs::WeightLemmas::pairs_left, crate::proofs::PlaceLemmas::key_fewer, crate::proofs::PlaceLemmas::value_fewer))]
 fn weight_of_pairs(pairs: &Pairs) -> u64
     ensures value { result ≡ min (entries_weight (entries_of pairs.now)) (2 ^ 64 - 1) }
 {
     let mut total: u64 = 0;
-    for pair in &pairs.pairs {
+    for place in 0..pairs.len() {
+        let pair = pairs.pair(place);
         let both = weight(&pair.key).saturating_add(weight(&pair.value));
         total = total.saturating_add(both);
     }

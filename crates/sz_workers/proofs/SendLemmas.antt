@@ -202,10 +202,10 @@ module _ (κ : NamedLft) where
       ))
 
   members_send : IsSend (Members.the_row κ)
-  members_send = let u = table_sync in search (parts, index_map.the_send) depth 30
+  members_send = let u = table_sync in search (parts, index_map.the_send) depth 30 fits 4000
 
   members_sync : IsSync (Members.the_row κ)
-  members_sync = let u = table_sync in search (parts, index_map.the_sync) depth 30
+  members_sync = let u = table_sync in search (parts, index_map.the_sync) depth 30 fits 4000
 
   aggregate_send : IsSend (Aggregate.the_row κ)
   aggregate_send = let a = sum_send in let b = extreme_send in let c = members_send in search parts depth 30

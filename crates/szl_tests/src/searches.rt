@@ -64,6 +64,11 @@ c: table sum of int; static s: map[int] of int = {1: 5, 2: 6}; m: map[int] of in
 c: table sum of int; a: array of int = {1, 2}; b := a; when (i: each int; a[i] > 0) a[i] = 9; emit c <- a[0] + a[1] * 10 + b[0] * 100 + b[1] * 1000; => 0 c[] = 2199¶
 c: table sum of int; n: int = 0; f: function(m: map[int] of int): int { m[9] = 1; return len(m); } m: map[int] of int = {1: 1, 2: 1}; when (k: each int; m[k] > 0) n = n * 10 + f(m); emit c <- n + len(m) * 100; => 0 c[] = 233¶
 
+== when: the keys of a map that grew in any order are its candidates, in their order
+< ¶
+c: table sum[int] of int; m: map[int] of int = {:}; for (i := 0; i < 600; i++) m[i * 271 % 600] = i; n: int = -1; t: int = 0; when (k: each int; m[k] >= 0) { if (k == n + 1) n = k; t = (t * 31 + m[k]) % 1000003; } emit c[0] <- n; emit c[1] <- t; when (k: each int; m[k] > 500) emit c[2] <- 1; when (k: some int; m[k] == 599) emit c[3] <- k; when (k: all int; m[k] < 600) emit c[4] <- 1; when (k: all int; m[k] < 599) emit c[5] <- 1; => 0 c[0] = 599¶c[1] = 399818¶c[2] = 99¶c[3] = 329¶c[4] = 1¶
+c: table sum[int] of int; m: map[int] of int = {:}; for (i := 600; i > 0; i--) m[i] = 1; n: int = 0; when (k: each int; m[k] > 0) { m[-k] = 1; m[k + 1000] = 2; emit c[0] <- k * (n % 7); n++; } emit c[1] <- n; emit c[2] <- len(m); when (k: each int; m[k] > 0) emit c[3] <- m[k]; emit c[4] <- keys(m)[600]; => 0 c[0] = 540300¶c[1] = 600¶c[2] = 1800¶c[3] = 2400¶c[4] = 1¶
+
 == when: break and continue stay inside, and return leaves it
 < ¶
 t: table collection of int; f: function(a: array of int): int { when (i: some int; a[i] > 1) return i; return 9; } emit t <- f({1, 2, 3}); emit t <- f({}); => 0 t[] = 1¶t[] = 9¶

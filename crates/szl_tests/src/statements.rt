@@ -59,6 +59,21 @@ c: table sum of int; a: array of map[int] of int = {{:}}; a[0][5] = 6; emit c <-
 c: table sum of int; a: array of int = {1}; b: array of int = a; b[0] = 5; emit c <- a[0] + b[0] * 10; => 0 c[] = 51¶
 c: table sum of int; a: array of int = {0, 1}; a[a[0]] = a[1] + 4; emit c <- a[0] + a[1] * 10; => 0 c[] = 15¶
 
+== maps that grow: keys are at their places, with their values, in whatever order they came
+< ¶
+c: table sum[int] of int; m: map[int] of int = {:}; for (i := 600; i > 0; i--) m[i * 2] = i; m[1200] = 7; emit c[0] <- len(m); when (k: each int; def(m[k])) emit c[1] <- m[k]; a := keys(m); emit c[2] <- a[0] + a[299] * 10 + a[599] * 10000; emit c[3] <- m[2] + m[600] * 10 + m[1200] * 10000; if (haskey(m, 2) && haskey(m, 1200) && !haskey(m, 601) && !def(m[0]) && !def(m[1202])) emit c[4] <- 1; => 0 c[0] = 600¶c[1] = 179707¶c[2] = 12006002¶c[3] = 73001¶c[4] = 1¶
+c: table sum[int] of int; m: map[int] of int = {:}; for (i := 0; i < 300; i++) { m[i] = i * 3; m[1000 - i] = i; } m[299] = -5; m[701] = 4; emit c[0] <- len(m); when (k: each int; def(m[k])) emit c[1] <- m[k]; a := keys(m); emit c[2] <- a[128] + a[300] * 1000 + a[598] * 1000000; emit c[3] <- m[298] + m[702] * 1000 + m[299] * 1000000 + m[701] * 10000000; if (haskey(m, 299) && haskey(m, 701) && !haskey(m, 300) && !haskey(m, 700) && !def(m[1001])) emit c[4] <- 1; => 0 c[0] = 600¶c[1] = 178203¶c[2] = 999701128¶c[3] = 35298894¶c[4] = 1¶
+c: table sum[int] of int; m: map[int] of int = {:}; for (i := 1; i < 601; i++) m[i * 257 % 601] = i; m[257] = 0; emit c[0] <- len(m); when (k: each int; def(m[k])) emit c[1] <- m[k]; a := keys(m); emit c[2] <- a[0] + a[255] * 10 + a[599] * 10000; emit c[3] <- m[1] + m[256] * 1000 + m[257] * 1000000 + m[600] * 10000000; if (haskey(m, 1) && haskey(m, 600) && !haskey(m, 0) && !def(m[601])) emit c[4] <- 1; => 0 c[0] = 600¶c[1] = 180299¶c[2] = 6002561¶c[3] = 1520153449¶c[4] = 1¶
+c: table sum[string] of int; m: map[string] of int = {:}; for (i := 0; i < 600; i++) m[string(i)] = i; m["99"] = 1000; a := keys(m); for (i := 0; i < 600; i = i + 150) emit c[a[i]] <- m[a[i]]; emit c[a[599]] <- m[a[599]]; emit c["all"] <- len(m); when (k: each string; m[k] >= 0) emit c["sum"] <- m[k]; emit c["none"] <- int(haskey(m, "600")) + int(haskey(m, "")) + int(haskey(m, "0.5")); => 0 c["0"] = 0¶c["233"] = 233¶c["369"] = 369¶c["503"] = 503¶c["99"] = 1000¶c["all"] = 600¶c["none"] = 0¶c["sum"] = 180601¶
+c: table sum[int] of int; u: array of {m: map[int] of int, n: int} = {{{:}, 5}}; for (i := 0; i < 600; i++) u[0].m[i * 7 % 600 - 300] = i; emit c[0] <- len(u[0].m) + u[0].n * 1000; emit c[1] <- u[0].m[-300] + u[0].m[0] * 1000 + u[0].m[299] * 1000000; emit c[2] <- keys(u[0].m)[450]; => 0 c[0] = 5600¶c[1] = 257300000¶c[2] = 150¶
+c: table sum[int] of int; m: map[int] of array of int = {:}; for (i := 0; i < 600; i++) m[-i] = {i, 1}; m[-300][1] = 9; when (k: each int; i: each int; m[k][i] >= 0) emit c[i] <- m[k][i]; emit c[2] <- m[-300][0] + m[-300][1] * 1000 + len(m) * 10000; => 0 c[0] = 179700¶c[1] = 608¶c[2] = 6009300¶
+
+== maps that grow: those with the same pairs are equal, and a copy is a map of its own
+< ¶
+c: table sum[int] of int; a: map[int] of int = {:}; b := a; o := a; for (i := 0; i < 600; i++) { a[i] = i; b[599 - i] = 599 - i; o[i * 77 % 600] = i * 77 % 600; } d := a; emit c[0] <- int(a == b) + int(a == d) * 10 + int(b == o) * 100 + int(a != o) * 1000; d[300] = 0; emit c[1] <- int(a == d) + int(b != d) * 10 + a[300] * 100; d[300] = 300; emit c[2] <- int(a == d) + int(o == d) * 10; d[600] = 1; emit c[3] <- int(a == d) + len(a) * 10 + len(d) * 10000; b[-1] = 1; emit c[4] <- int(b == d) + int(a == o) * 10; => 0 c[0] = 111¶c[1] = 30010¶c[2] = 11¶c[3] = 6016000¶c[4] = 10¶
+< ¶¶
+c: table sum[int] of int; f: function(n: int): map[int] of int { m: map[int] of int = {:}; for (i := 0; i < n; i++) m[-i] = i; return m; } static s: map[int] of int = f(600); m := s; m[1] = 7; m[-599] = 0; m[-1000] = 3; emit c[0] <- len(s) + len(m) * 1000; emit c[1] <- s[-599] + m[-599] * 1000 + m[-598] * 1000000; emit c[2] <- int(s == f(600)) + int(s == m) * 10; => 0 c[0] = 1205200¶c[1] = 1196001198¶c[2] = 2¶
+
 == a part is read where it stands, and is a copy of its own once it is kept
 < ¶
 c: table sum of int; static m: map[int] of array of int = {1: {4, 5}, 2: {6}}; emit c <- m[1][1] + len(m[2]) * 10; => 0 c[] = 15¶

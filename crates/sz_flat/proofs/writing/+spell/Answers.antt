@@ -2,13 +2,13 @@
 use Rattle.std.proofs.Common.{◌≡◌, ◌∙◌, ◌+◌, ◌∷◌, ◌++◌, length, map, take, sym, ap, subst, arith}
 use Rattle.std.specs.Prelude.{OnOk}
 use Rattle.std.proofs.lemmas.List.{length-map}
-use Rattle.sz_value.specs.Code.{datum_nodes, parts_nodes, pairs_nodes}
-use Rattle.sz_value.specs.Data.{data_of, entries_of}
-use Rattle.sz_value.specs.Seen.{seen, seen_pair, seen_pairs}
-use Rattle.sz_flat.specs.Spelling.{length_bytes, HasShortLengths, HaveSpellings, PairsHaveSpellings}
+use Rattle.sz_value.specs.Code.{datum_nodes, parts_nodes}
+use Rattle.sz_value.specs.Data.{data_of}
+use Rattle.sz_value.specs.Seen.{seen, seen_pair}
+use Rattle.sz_flat.specs.Spelling.{length_bytes, HasShortLengths, HaveSpellings}
 use Rattle.sz_flat.specs.Reading.{values, pair, all_of, Adds}
 use Rattle.sz_flat.proofs.FrontLemmas.{parts_have, pairs_have, one_more_added}
-use Rattle.sz_flat.proofs.WritingLemmas.{short_parts, short_pairs, list_added, map_added, on_both, on_one, few_parts, few_pairs, array_added, tuple_added, mapping_added, pair_added, part_nodes, pair_nodes, taken_more}
+use Rattle.sz_flat.proofs.WritingLemmas.{short_parts, list_added, map_added, on_both, on_one, few_parts, few_pairs, array_added, tuple_added, mapping_added, pair_added, part_nodes, taken_more, pair_nodes, short_pair, pair_taken}
 use Rattle.sz_flat.proofs.writing.+spell.Goals as goal
 
 pub spell-spell_list-requires : goal.spell-spell_list-requires
@@ -89,16 +89,8 @@ spell_list-returns-clause-value t c =
     (subst (λ ds. Adds (all_of values (length c.as_slice.result.now)) now new ds) c.as_slice.ensures.value h) in both))
     c.spell_parts.ensures.value
 
-pub spell_map-spell_pairs-requires : goal.spell_map-spell_pairs-requires
-spell_map-spell_pairs-requires t c =
-    let nodes = ap pairs_nodes c.as_slice.ensures.value in
-    (omega (arith, nodes, c.decreases), short_pairs c.as_slice.result.now c.args.pairs.now c.as_slice.ensures.value c.requires.short)
-
 pub spell_map-returns-clause-spelled : goal.spell_map-returns-clause-spelled
-spell_map-returns-clause-spelled t c =
-    on_one c.spell_pairs.result
-    (λ h. subst (λ ps. PairsHaveSpellings (entries_of ps)) c.as_slice.ensures.value (pairs_have (seen_pairs c.as_slice.result.now) h.has.1))
-    c.spell_pairs.ensures.value
+spell_map-returns-clause-spelled t c = on_one c.spell_pairs.result (λ h. pairs_have c.args.pairs.now h.has.1) c.spell_pairs.ensures.value
 
 pub spell_map-returns-clause-value : goal.spell_map-returns-clause-value
 spell_map-returns-clause-value t c =
@@ -107,34 +99,32 @@ spell_map-returns-clause-value t c =
     let new = c.spell_pairs.new.out.items in
     let pairs = c.args.pairs.now in
     let counted : now ≡ old ++ 8 ∷ length_bytes (length pairs) = c.in_ok-spell_length.ensures.value ∙ (λ i. old ++ 8 ∷ length_bytes (c.len.ensures.value i)) in
-    let long = ap length (sym c.as_slice.ensures.value) ∙ length-map c.as_slice.result.now seen_pair in
-    on_one c.spell_pairs.result
-    (λ h. map_added old now new 8 (length pairs) pairs counted
-    (let both : Adds (all_of pair (length pairs)) now new pairs = subst (λ n. Adds (all_of pair n) now new pairs) (sym long)
-    (subst (λ ps. Adds (all_of pair (length c.as_slice.result.now)) now new ps) c.as_slice.ensures.value h) in both))
-    c.spell_pairs.ensures.value
+    on_one c.spell_pairs.result (map_added old now new 8 (length pairs) pairs counted) c.spell_pairs.ensures.value
 
 pub spell_pairs-spell-requires : goal.spell_pairs-spell-requires
 spell_pairs-spell-requires t c =
-    let nodes = pair_nodes c.args.pairs.now c.loop-pair.pair-index c.pair-item.result c.loop-pair-test.true c.pair-item.is in
-    let short = c.requires.short c.loop-pair.pair-index c.pair-item.result c.loop-pair-test.true in
-    (omega (arith, nodes, c.decreases), subst (λ p. HasShortLengths (seen p.key)) (sym c.pair-item.is) short.0)
+    let pairs = c.args.pairs.now in
+    let one = seen_pair c.pair-pair.result.now in
+    let nodes = pair_nodes one pairs c.loop-place.place c.pair-pair.ensures.value in
+    (omega (arith, nodes, c.decreases), (short_pair one pairs c.loop-place.place c.pair-pair.ensures.value c.requires.short).0)
 
-pub spell_pairs-spell-requires-in-loop-pair : goal.spell_pairs-spell-requires-in-loop-pair
-spell_pairs-spell-requires-in-loop-pair t c =
-    let nodes = pair_nodes c.args.pairs.now c.loop-pair.pair-index c.pair-item.result c.loop-pair-test.true c.pair-item.is in
-    let short = c.requires.short c.loop-pair.pair-index c.pair-item.result c.loop-pair-test.true in
-    (omega (arith, nodes, c.decreases), subst (λ p. HasShortLengths (seen p.value)) (sym c.pair-item.is) short.1)
+pub spell_pairs-spell-requires-in-loop-place : goal.spell_pairs-spell-requires-in-loop-place
+spell_pairs-spell-requires-in-loop-place t c =
+    let pairs = c.args.pairs.now in
+    let one = seen_pair c.pair-pair.result.now in
+    let nodes = pair_nodes one pairs c.loop-place.place c.pair-pair.ensures.value in
+    (omega (arith, nodes, c.decreases), (short_pair one pairs c.loop-place.place c.pair-pair.ensures.value c.requires.short).1)
 
-pub spell_pairs-loop-pair-preserved : goal.spell_pairs-loop-pair-preserved
-spell_pairs-loop-pair-preserved t c =
-    let i = c.loop-pair.pair-index in
-    let p = c.pair-item.result in
+pub spell_pairs-loop-place-preserved : goal.spell_pairs-loop-place-preserved
+spell_pairs-loop-place-preserved t c =
+    let i = c.loop-place.place in
+    let p = c.pair-pair.result.now in
+    let pairs = c.args.pairs.now in
     let old = c.args.out.now.items in
-    let new = c.spell-in-loop-pair.new.out.items in
-    let one = pair_added c.loop-pair.out.items c.spell.new.out.items new (seen p.key) (seen p.value) c.in_ok-spell.ensures.value c.in_ok-spell-2.ensures.value in
-    subst (Adds (all_of pair (i + 1)) old new) (sym (taken_more seen_pair c.args.pairs.now i p c.loop-pair-test.true c.pair-item.is))
-    (one_more_added pair old c.loop-pair.out.items new (map seen_pair (take i c.args.pairs.now)) (seen_pair p) i c.loop-pair.invariant one)
+    let new = c.spell-in-loop-place.new.out.items in
+    let one = pair_added c.loop-place.out.items c.spell.new.out.items new (seen p.key) (seen p.value) c.in_ok-spell.ensures.value c.in_ok-spell-2.ensures.value in
+    subst (Adds (all_of pair (i + 1)) old new) (sym (pair_taken (seen_pair p) pairs i c.pair-pair.ensures.value))
+    (one_more_added pair old c.loop-place.out.items new (take i pairs) (seen_pair p) i c.loop-place.invariant one)
 
 pub spell_parts-spell-requires : goal.spell_parts-spell-requires
 spell_parts-spell-requires t c =

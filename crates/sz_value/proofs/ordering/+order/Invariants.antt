@@ -10,5 +10,4 @@ invariant-order_lists-loop-i l =
 
 abbrev pub invariant-order_maps-loop-i : goal.invariant-order_maps-loop-i
 invariant-order_maps-loop-i l =
-    pairs_order (drop l.i l.a-inside.pairs.items) (drop l.i l.b-inside.pairs.items)
-    ≡ pairs_order l.a-inside.pairs.items l.b-inside.pairs.items
+    pairs_order (drop l.i l.a) (drop l.i l.b) ≡ pairs_order l.a l.b

@@ -9,7 +9,7 @@ invariant-weight_of_list-loop-value l =
     (min (l.total + list_weight (drop l.value-index l.value-items)) (2 ^ 64 - 1) ≡ min (list_weight l.value-items) (2 ^ 64 - 1))
     × (l.total ≤ 2 ^ 64 - 1)
 
-abbrev pub invariant-weight_of_pairs-loop-pair : goal.invariant-weight_of_pairs-loop-pair
-invariant-weight_of_pairs-loop-pair l =
-    (min (l.total + pairs_weight (drop l.pair-index l.pair-items)) (2 ^ 64 - 1) ≡ min (pairs_weight l.pair-items) (2 ^ 64 - 1))
+abbrev pub invariant-weight_of_pairs-loop-place : goal.invariant-weight_of_pairs-loop-place
+invariant-weight_of_pairs-loop-place l =
+    (min (l.total + pairs_weight (drop l.place l.pairs)) (2 ^ 64 - 1) ≡ min (pairs_weight l.pairs) (2 ^ 64 - 1))
     × (l.total ≤ 2 ^ 64 - 1)

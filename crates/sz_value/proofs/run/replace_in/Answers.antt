@@ -2,7 +2,7 @@
 use Rattle.std.proofs.Common.{refl}
 use Rattle.sz_value.specs.Seen.{seen}
 use Rattle.sz_value.proofs.MapLemmas.{value_over, value_missing}
-use Rattle.sz_value.proofs.pairs.replace_in.Goals as goal
+use Rattle.sz_value.proofs.run.replace_in.Goals as goal
 
 pub returns-in-Ok-clause-ok : goal.returns-in-Ok-clause-ok
 returns-in-Ok-clause-ok c =

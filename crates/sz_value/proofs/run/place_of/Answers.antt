@@ -4,7 +4,7 @@ use Rattle.std.proofs.lemmas.Fn.{always_returns_same}
 use Rattle.sz_value.specs.Order.{compare}
 use Rattle.sz_value.specs.Seen.{seen}
 use Rattle.sz_value.proofs.MapLemmas.{searched}
-use Rattle.sz_value.proofs.pairs.place_of.Goals as goal
+use Rattle.sz_value.proofs.run.place_of.Goals as goal
 
 pub returns : goal.returns
 returns c =

@@ -3,7 +3,7 @@ use mathlib.Core.Bool.{false≢true}
 use Rattle.std.proofs.Common.{map}
 use Rattle.sz_value.specs.Seen.{seen, seen_pair}
 use Rattle.sz_value.proofs.MapLemmas.{put_over, put_between, value_missing}
-use Rattle.sz_value.proofs.pairs.put_in.Goals as goal
+use Rattle.sz_value.proofs.run.put_in.Goals as goal
 
 pub returns-in-Ok-clause-ok : goal.returns-in-Ok-clause-ok
 returns-in-Ok-clause-ok c =
@@ -30,6 +30,12 @@ returns-in_ok-insert-in-Err-clause-rising c =
 -- What asks for memory is a key that is not there.
 pub returns-in_err-insert-in-Err-clause-room : goal.returns-in_err-insert-in-Err-clause-room
 returns-in_err-insert-in-Err-clause-room c there =
+    let gap = rw c.deref.ensures.value at c.in-Err.ensures.none in
+    let missing = value_missing (seen c.args.key) (map seen_pair c.args.pairs.now.items) c.in-Err.place c.requires.rising gap in
+    absurd (false≢true (rw missing at there))
+
+pub returns-then-room-eq0-clause-room : goal.returns-then-room-eq0-clause-room
+returns-then-room-eq0-clause-room c there =
     let gap = rw c.deref.ensures.value at c.in-Err.ensures.none in
     let missing = value_missing (seen c.args.key) (map seen_pair c.args.pairs.now.items) c.in-Err.place c.requires.rising gap in
     absurd (false≢true (rw missing at there))
