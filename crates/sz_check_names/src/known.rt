@@ -1,5 +1,5 @@
 //! What is known in front of a statement.
-ghost use Rattle.std.specs.Prelude.{◌≡◌, ◌∷◌, ◌++◌, ◌-◌, ◌<◌, [], length, not, IfOk, IfSome, OnErr, if◌then◌else◌};
+ghost use Rattle.std.specs.Prelude.{◌≡◌, ◌⊎◌, ◌∷◌, ◌++◌, ◌-◌, ◌<◌, [], length, not, IfOk, IfSome, OnErr, if◌then◌else◌};
 ghost use Rattle.sz_types.specs.Seen.{seen};
 ghost use Rattle.sz_check_rules.specs.Names.{Named, has, look_up, declare, type_name};
 ghost use Rattle.sz_check_rules.specs.Names as names;
@@ -9,6 +9,7 @@ ghost use Rattle.sz_check_rules.specs.Scene.{with_variable, with_quantified};
 ghost use Rattle.sz_check_names.specs.Knowledge.{at_first, meaning_of, means_of, maybe_means_of, IsOfTypes, Knowledge, blocks_of, blocks_for, scene_of, outside_of, in_function, IsRoundFunction};
 ghost use Rattle.sz_check_names.specs.Keeping.{floor_of, place_of, placed, sight_for, fitting, with_name, with_type, IsBySight, IsTyped, without_innermost, at_no_name};
 ghost use Rattle.sz_check_names.specs.Written.{shape_in};
+ghost use Rattle.sz_scope.specs.declared.sight.Sight.TheVariants as sights;
 
 use crate::error::JudgeError;
 use crate::field_names::{is_new, one_block};
@@ -156,6 +157,7 @@ impl Known {
     /// The predeclared names, in a block round the program's own, which is empty.
     pub fn predeclared(alloc: Global) -> Result<Known, AllocError>
         ensures value { IfOk result (λ made. scene_of made ≡ at_first) }
+        ensures fresh { IfOk result (λ made. (made.outside.types ≡ []) × (made.outside.sight ≡ sights.Record)) }
     {
         let mut known = Known::in_one_block(alloc)?;
         let (_, known) = beside(known.put_predeclared(), known)?;
@@ -166,6 +168,7 @@ impl Known {
     fn put_predeclared(&mut self) -> Result<(), AllocError>
         requires first { self.old ≡ at_no_name }
         ensures value { IfOk result (λ _. scene_of self.new ≡ at_first) }
+        ensures fresh { IfOk result (λ _. (self.new.outside.types ≡ []) × (self.new.outside.sight ≡ sights.Record)) }
     {
         self.put("strfind", Meaning::Predeclared(Builtin::StrFind))?;
         self.put("haskey", Meaning::Predeclared(Builtin::HasKey))?;
@@ -249,6 +252,7 @@ impl Known {
             (declare name.now (meaning_of self.old.outside.types meaning) (blocks_of self.old)) }
         ensures outside { self.new.outside ≡ self.old.outside }
         ensures locals { self.new.locals ≡ self.old.locals }
+        ensures err { OnErr result (self.new ≡ self.old) }
     {
         if self.put(name.text().as_str(), meaning)? {
             Ok(())
@@ -266,7 +270,10 @@ impl Known {
     ) -> Result<(), JudgeError>
         ensures value { Judges (λ _. blocks_of self.new) result
             (declare name.now (type_name (shape_in self.old.outside.types written)) (blocks_of self.old)) }
+        ensures outside { (self.new.outside ≡ self.old.outside)
+            ⊎ (self.new.outside ≡ record self.old.outside { types = self.old.outside.types ++ shape_in self.old.outside.types written ∷ [] }) }
         ensures locals { self.new.locals ≡ self.old.locals }
+        ensures err { OnErr result (self.new.innermost ≡ self.old.innermost) }
     {
         let number = match &written {
             Written::Named(number) if (*number as usize) < self.types.len() => *number,
@@ -298,6 +305,7 @@ impl Known {
         ensures value { Judges (λ _. scene_of self.new) result (with_variable name.now (seen ty) (scene_of self.old)) }
         ensures number { IfOk result (λ number. number ≡ length self.old.locals) }
         ensures outside { self.new.outside ≡ self.old.outside }
+        ensures err { OnErr result (self.new.innermost ≡ self.old.innermost) }
     {
         let (number, copy) = self.add_local(alloc, ty)?;
         self.declare(alloc, name, Meaning::Variable(number, copy))?;
@@ -315,6 +323,7 @@ impl Known {
         ensures value { Judges (λ _. scene_of self.new) result (with_quantified name.now (seen ty) (scene_of self.old)) }
         ensures number { IfOk result (λ number. number ≡ length self.old.locals) }
         ensures outside { self.new.outside ≡ self.old.outside }
+        ensures err { OnErr result (self.new.innermost ≡ self.old.innermost) }
     {
         let (number, copy) = self.add_local(alloc, ty)?;
         self.declare(alloc, name, Meaning::Quantified(number, copy))?;
@@ -324,6 +333,7 @@ impl Known {
     /// An empty block more, inside.
     pub fn open(&mut self) -> Result<(), AllocError>
         ensures value { IfOk result (λ _. self.new ≡ record self.old { innermost = []; outside = outside_of self.old }) }
+        ensures err { OnErr result (self.new ≡ self.old) }
     {
         self.scopes.push()
     }
@@ -331,6 +341,7 @@ impl Known {
     /// The end of the innermost block, if the routine opened it. The variables inside keep their numbers.
     pub fn close(&mut self)
         ensures value { (k : Knowledge) → self.old.outside ≡ outside_of k → self.new ≡ record k { locals = self.old.locals } }
+        ensures none { self.old.outside.own ≡ 0 → self.new ≡ self.old }
     {
         let outside = floor(self.sight);
         close_innermost(&mut self.scopes, outside);
@@ -341,6 +352,7 @@ impl Known {
         ensures value { IfOk result (λ _. self.new ≡ in_function self.old) }
         ensures aside { IfOk result (λ aside. (aside.sight ≡ self.old.outside.sight) × (aside.locals ≡ self.old.locals)) }
         ensures kept { IfOk result (λ _. IsBySight self.old) }
+        ensures err { OnErr result (self.new ≡ self.old) }
     {
         let outside = self.scopes.depth();
         self.scopes.push()?;

@@ -1,5 +1,7 @@
 //! The end of a ledger, once its workers are done.
-ghost use Rattle.std.specs.Prelude.{◌≡◌, ◌+◌, length, IfOk, OnOk};
+ghost use Rattle.std.specs.Prelude.{◌≡◌, ◌+◌, length, List, IfOk, OnOk};
+ghost use Rattle.sz_book_rules.specs.declared.event.Entry.{Entry};
+ghost use Rattle.sz_claims.specs.Known.{PassData, IsEnd, IsClosed, ends_in};
 ghost use Rattle.sz_workers_loop.specs.Closing.{AreBack, HasTakenIn, IsAlone, IsLeft};
 
 use std::alloc::Global;
@@ -17,6 +19,8 @@ pub fn close_all<T: Load>(
     requires alone { IsAlone ledger (length back.items) first }
     requires back { AreBack ledger 1 back.items }
     ensures left { IfOk result (λ left. IsLeft T.died ledger.plan left.0.lanes.items left.1.items left.0.settled left.0.deaths) }
+    ensures closed { IfOk result (λ left. (v : PassData) × (log : List Entry) × HasTakenIn ledger v left.1.items × IsEnd T.died T.faults v log
+        × IsClosed v.ledger.plan (ends_in v log) left.0.lanes.items left.0.settled left.0.deaths left.0.least_bad) }
 {
     let pockets = join_all(alloc, &ledger, &mut first, back)?;
     let closed = ledger.close(first);

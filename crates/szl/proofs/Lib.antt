@@ -31,3 +31,4 @@ mod SelftestLemmas
 mod SettingsLemmas
 mod ShardLemmas
 mod WordsLemmas
+mod WorkersLemmas

@@ -2,6 +2,7 @@
 pub mod Settings
 pub mod Records
 pub mod Shards
+pub mod Workers
 pub mod Judgement
 pub mod Checking
 pub mod Reserved

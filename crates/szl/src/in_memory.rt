@@ -1,5 +1,7 @@
 //! The top call over devices of which no call fails.
 ghost use Rattle.std.specs.Prelude.{◌≡◌, ◌≤◌, length, map, string_bytes};
+ghost use Rattle.sz_io.specs.Opened.{KeepsFiles};
+ghost use Rattle.sz_io.specs.Rose.{DoNotFall};
 ghost use Rattle.sz_io.specs.SureFiles.{sure_names};
 ghost use Rattle.sz_words.specs.Settings.{settings_in};
 ghost use Rattle.szl.specs.Completeness.{Completes};
@@ -30,6 +32,12 @@ pub fn szl_in_memory<R: Threads + Sync, G: Gate + Sync>(
         → AreReadToEnd ⟦<SureFiles as Files>⟧ files.old files.new (names_asked (settings_in (map string_bytes words.now))) }
     ensures saved { result ≡ Status.Done
         → SavesOutput ⟦<SureFiles as Files>⟧ ⟦<SureSink as Sink>⟧ (settings_in (map string_bytes words.now)) files.old out.old out.new }
+
+    ensures kept { KeepsFiles ⟦<SureFiles as Files>⟧.held ⟦<SureFiles as Files>⟧.left ⟦<SureFiles as Files>⟧.given ⟦<SureFiles as Files>⟧.faults
+        files.old files.new }
+    ensures out_counts { DoNotFall ⟦<SureSink as Sink>⟧.faults ⟦<SureSink as Sink>⟧.refusals out.old out.new }
+    ensures err_counts { DoNotFall ⟦<SureSink as Sink>⟧.faults ⟦<SureSink as Sink>⟧.refusals err.old err.new }
+    ensures quiet { result ≡ Status.Done → err.new ≡ err.old }
 {
     szl_main(rt, alloc, words, files, out, err, gate)
 }

@@ -1,10 +1,11 @@
-//! What holds of all texts, of all files of types, of all records, and of all saved files. The calls do nothing: they promise laws of
-//! `specs/Judgement.antt`, `specs/ProtoFiles.antt`, `specs/Shards.antt` and `specs/Merging.antt`.
+//! What holds of all texts, of all files of types, of all records, of all numbers of workers, and of all saved files. The calls do nothing: they
+//! promise laws of `specs/Judgement.antt`, `specs/ProtoFiles.antt`, `specs/Shards.antt`, `specs/Workers.antt` and `specs/Merging.antt`.
 ghost use Rattle.szl.specs.Judgement.{EveryTextIsRead, HasOneReading};
 ghost use Rattle.szl.specs.Merging.{EveryListIsMerged, IsMergedOnce};
 ghost use Rattle.szl.specs.ProtoFiles.{EveryFileIsRead, HasOneFileReading};
 ghost use Rattle.szl.specs.SavedRuns.{MergesToOneRun, SavesItsAnswer};
 ghost use Rattle.szl.specs.Shards.{SizesAreShards};
+ghost use Rattle.szl.specs.Workers.{ForgetsTheWorkers};
 
 use sz_merge::merging_forgets_the_order;
 use sz_save::one_spelling;
@@ -25,6 +26,11 @@ pub fn files_are_read_once()
 /// Records are cut into shards of the sizes that the outcome has, which are the only ones.
 pub fn sizes_are_shards()
     ensures cut { SizesAreShards }
+{}
+
+/// The outcome of a run is the same whatever the number of its workers, and whichever shards have a second ticket.
+pub fn outcomes_forget_the_workers()
+    ensures same { ForgetsTheWorkers }
 {}
 
 /// Merging 1 to 64 files ends in just one way, so the outcome of a command line that merges is determined by its words and the bytes of its

@@ -30,8 +30,8 @@ use sz_disk::Disk;
 use sz_io::{Files, Gate, Sink, WriteError, write_whole};
 
 /// Runs the command line of these words, which come without the program's name: opens what it names in `files`,
-/// writes its text to `out`, and the line that says why there is none to `err`. Only status 0 leaves all of the text there, and after a write that
-/// failed, or want of memory, there may be a front of it.
+/// writes its text to `out`, and the line that says why there is none to `err`. Only status 0 says that all of the text is there; after a write
+/// that failed, or want of memory, a front of it may be, even all.
 ///
 /// In lines records and the files of `merge` are counted from 1, and so are lines and columns of a program, the columns in bytes; a fault of a static
 /// is one of record 0. Shards and bytes are counted from 0. A job that is resumed needs a disk: here its words are no command line.
@@ -63,6 +63,7 @@ pub fn szl_main<R: Threads + Sync, F: Files, O: Sink, E: Sink, G: Gate + Sync>(
     ensures kept { KeepsFiles F.held F.left F.given F.faults files.old files.new }
     ensures out_counts { DoNotFall O.faults O.refusals out.old out.new }
     ensures err_counts { DoNotFall E.faults E.refusals err.old err.new }
+    ensures quiet { result ≡ Status.Done → err.new ≡ err.old }
 {
     szl_main_on(rt, alloc, words, files, out, err, gate, Stack::Large)
 }
@@ -91,6 +92,7 @@ pub fn szl_main_on<R: Threads + Sync, F: Files, O: Sink, E: Sink, G: Gate + Sync
     ensures kept { KeepsFiles F.held F.left F.given F.faults files.old files.new }
     ensures out_counts { DoNotFall O.faults O.refusals out.old out.new }
     ensures err_counts { DoNotFall E.faults E.refusals err.old err.new }
+    ensures quiet { result ≡ Status.Done → err.new ≡ err.old }
 {
     let answer = answer(rt, alloc, words, files, gate, stack);
     match print(out, answer) {
@@ -132,6 +134,7 @@ pub fn szl_disk_main<R: Threads + Sync, F: Files, O: Sink, E: Sink, G: Gate + Sy
     ensures kept { KeepsFiles F.held F.left F.given F.faults files.old files.new }
     ensures out_counts { DoNotFall O.faults O.refusals out.old out.new }
     ensures err_counts { DoNotFall E.faults E.refusals err.old err.new }
+    ensures quiet { result ≡ Status.Done → err.new ≡ err.old }
     ensures disk_counts { DoesNotFall (K.faults disk.old) (K.faults disk.new) }
 {
     szl_disk_main_on(rt, alloc, words, files, out, err, gate, disk, Stack::Large)
@@ -166,6 +169,7 @@ pub fn szl_disk_main_on<R: Threads + Sync, F: Files, O: Sink, E: Sink, G: Gate +
     ensures kept { KeepsFiles F.held F.left F.given F.faults files.old files.new }
     ensures out_counts { DoNotFall O.faults O.refusals out.old out.new }
     ensures err_counts { DoNotFall E.faults E.refusals err.old err.new }
+    ensures quiet { result ≡ Status.Done → err.new ≡ err.old }
     ensures disk_counts { DoesNotFall (K.faults disk.old) (K.faults disk.new) }
 {
     let answer = answer_on_disk(rt, alloc, words, files, gate, disk, stack);

@@ -1,5 +1,6 @@
 //! Why a program is refused.
-ghost use Rattle.std.specs.Prelude.{◌≡◌, ◌++◌, IfOk, OnOk};
+ghost use Rattle.std.specs.Prelude.{◌≡◌, ◌++◌, [], IfOk, OnOk};
+ghost use Rattle.std.specs.Option.{unwrap_or};
 ghost use Rattle.szl_explain_judge.specs.Refusing.{name_text, place_text, refusal_at, refusal_line};
 
 use itoa::Buffer;
@@ -37,7 +38,9 @@ impl Refusal {
     }
 
     /// The bytes of its name, or none.
-    pub fn name_bytes(&self) -> &[u8] {
+    pub fn name_bytes(&self) -> &[u8]
+        ensures value { result.now ≡ unwrap_or self.now.name [] }
+    {
         match &self.name {
             Some(name) => name.as_bytes(),
             None => b"",

@@ -65,6 +65,10 @@ returns-in-Ok-clause-journal g c =
     (λ s k. keeps_under g.F.Files g.K.Disk s (status_of_answer made) _ c.args.files.now c.args.disk.now c.answer_on_disk-answer.new.disk
     (λ e. printed_done made c.in-Ok.field-0 _ _ c.in-Ok.ensures.value) k) (λ same. same) c.answer_on_disk-answer.ensures.stopped
 
+-- a line is written of a failure alone
+pub returns-in-Err-clause-quiet : goal.returns-in-Err-clause-quiet
+returns-in-Err-clause-quiet g c is = absurd (not_done c.tell.result (sym c.status.ensures.value ∙ is))
+
 -- what was printed is what was saved
 pub returns-in-Ok-clause-saved : goal.returns-in-Ok-clause-saved
 returns-in-Ok-clause-saved g c done =

@@ -1,10 +1,11 @@
-use Rattle.std.proofs.Common.{sym, subst, map}
+use Rattle.std.proofs.Common.{◌∙◌, sym, subst, map}
 use Rattle.std.specs.Prelude.{string_bytes}
 use Rattle.szl.specs.Promise.{MeansSource}
 use Rattle.szl.specs.ProgramRuns.{vec_items_of}
 use Rattle.sz_words.specs.Settings.{settings_in}
 use Rattle.szl.proofs.MainLemmas.{means_done, means_failure}
 use Rattle.szl.proofs.SavedLemmas.{printed_saves}
+use Rattle.szl.proofs.KeepLemmas.{not_done}
 use Rattle.szl.proofs.top.szl_main_on.Goals as goal
 
 -- a failure is told
@@ -24,6 +25,10 @@ returns-in-Ok-clause-outcome g c =
     means_done g.F.Files g.O.Sink g.E.Sink (map string_bytes c.args.words.now) c.args.files.now c.answer-answer.new.files c.args.out.now
     c.print.new.out c.args.err.now (vec_items_of c.answer-answer.result) c.in-Ok.field-0 c.answer-answer.ensures.value c.in-Ok.ensures.value
     c.in-Ok.ensures.nothing
+
+-- a line is written of a failure alone
+pub returns-in-Err-clause-quiet : goal.returns-in-Err-clause-quiet
+returns-in-Err-clause-quiet g c is = absurd (not_done c.tell.result (sym c.status.ensures.value ∙ is))
 
 -- what was printed is what was saved
 pub returns-in-Ok-clause-saved : goal.returns-in-Ok-clause-saved
