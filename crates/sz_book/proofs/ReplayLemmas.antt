@@ -90,25 +90,25 @@ goes_on p lanes log x (LaneOut i) ss reply h fits answer is = absurd (cc is)
 goes_on p lanes log x (LaneBack i) ss reply h fits answer is = lent_and_back p lanes log x i ss reply h fits answer
 goes_on p lanes log x (Bad s) ss reply h fits answer is = one_more p lanes log (all_home x) (all_home (after p x 0 (Bad s) ss)) (entry 0 (Bad s) ss reply) h fits answer refl
 
-least_faults : (faults : ℕ → Type 0) (m s : ℕ) → (m < 2 ^ 32 → faults m) → faults s → (b : Bool) → nat_lt s m ≡ b → min m s < 2 ^ 32 → faults (min m s)
-least_faults faults m s h now true is low = let less = ltb-true s m is in let same : min m s ≡ s = omega arith in subst faults (sym same) now
-least_faults faults m s h now false is low = let more = ltb-false s m is in let same : min m s ≡ m = omega arith in subst faults (sym same) (h (omega arith))
+least_faults : (is_bad : ℕ → Type 0) (m s : ℕ) → (m < 2 ^ 32 → is_bad m) → is_bad s → (b : Bool) → nat_lt s m ≡ b → min m s < 2 ^ 32 → is_bad (min m s)
+least_faults is_bad m s h now true is low = let less = ltb-true s m is in let same : min m s ≡ s = omega arith in subst is_bad (sym same) now
+least_faults is_bad m s h now false is low = let more = ltb-false s m is in let same : min m s ≡ m = omega arith in subst is_bad (sym same) (h (omega arith))
 
-bad_step : (died : ℕ → ℕ → Type 0) (faults : ℕ → Type 0) (p : PlanData) (x : LedgerState) (event : Event) (ss : List ℕ) → IsTrueReport died faults event
-    → (x.least_bad < 2 ^ 32 → faults x.least_bad) → (after p x 0 event ss).least_bad < 2 ^ 32 → faults (after p x 0 event ss).least_bad
-bad_step died faults p x Draw ss t h = either (λ y. y.least_bad < 2 ^ 32 → faults y.least_bad) (nat_lt x.drawn (count_of p)) (record x { drawn = x.drawn + 1 }) x h h
-bad_step died faults p x (Number c) ss t h = either (λ y. y.least_bad < 2 ^ 32 → faults y.least_bad) (nat_lt (slice_index x.given c.shard) p.attempts) (record x { given = set x.given c.shard (slice_index x.given c.shard + 1) }) x h h
-bad_step died faults p x (Died c k) ss t h = h
-bad_step died faults p x (Settle c k) ss t h = either (λ y. y.least_bad < 2 ^ 32 → faults y.least_bad) (slice_index x.winners c.shard == 0) (record x { winners = set x.winners c.shard (k + 1); unplaced = set x.unplaced c.shard (0 + 1) }) x h h
-bad_step died faults p x (LaneOut i) ss t h = either (λ y. y.least_bad < 2 ^ 32 → faults y.least_bad) (slice_index x.outs i == 0) (record x { outs = set x.outs i 1 }) x h h
-bad_step died faults p x (LaneBack i) ss t h = h
-bad_step died faults p x (Bad s) ss t h = least_faults faults x.least_bad s h t (nat_lt s x.least_bad) refl
+bad_step : (died : ℕ → ℕ → Type 0) (is_bad : ℕ → Type 0) (p : PlanData) (x : LedgerState) (event : Event) (ss : List ℕ) → IsTrueReport died is_bad event
+    → (x.least_bad < 2 ^ 32 → is_bad x.least_bad) → (after p x 0 event ss).least_bad < 2 ^ 32 → is_bad (after p x 0 event ss).least_bad
+bad_step died is_bad p x Draw ss t h = either (λ y. y.least_bad < 2 ^ 32 → is_bad y.least_bad) (nat_lt x.drawn (count_of p)) (record x { drawn = x.drawn + 1 }) x h h
+bad_step died is_bad p x (Number c) ss t h = either (λ y. y.least_bad < 2 ^ 32 → is_bad y.least_bad) (nat_lt (slice_index x.given c.shard) p.attempts) (record x { given = set x.given c.shard (slice_index x.given c.shard + 1) }) x h h
+bad_step died is_bad p x (Died c k) ss t h = h
+bad_step died is_bad p x (Settle c k) ss t h = either (λ y. y.least_bad < 2 ^ 32 → is_bad y.least_bad) (slice_index x.winners c.shard == 0) (record x { winners = set x.winners c.shard (k + 1); unplaced = set x.unplaced c.shard (0 + 1) }) x h h
+bad_step died is_bad p x (LaneOut i) ss t h = either (λ y. y.least_bad < 2 ^ 32 → is_bad y.least_bad) (slice_index x.outs i == 0) (record x { outs = set x.outs i 1 }) x h h
+bad_step died is_bad p x (LaneBack i) ss t h = h
+bad_step died is_bad p x (Bad s) ss t h = least_faults is_bad x.least_bad s h t (nat_lt s x.least_bad) refl
 
 has_rows : (p : PlanData) (x : LedgerState) → IsSound p x → HasRows p x
 has_rows p x h = record { given = h.rows.0; deaths = h.rows.1; winners = h.rows.2; unplaced = h.rows.3; lists = h.lanes }
 
-leads : (died : ℕ → ℕ → Type 0) (faults : ℕ → Type 0) (h : HeldData) → Replays died faults h → LeadsTo h.plan h.lanes (with_lendings h.history) (all_home h.state)
-leads died faults h r = record { legal = r.legal; state = r.state }
+leads : (died : ℕ → ℕ → Type 0) (is_bad : ℕ → Type 0) (h : HeldData) → Replays died is_bad h → LeadsTo h.plan h.lanes (with_lendings h.history) (all_home h.state)
+leads died is_bad h r = record { legal = r.legal; state = r.state }
 
 by_change : (p : PlanData) (lanes : ℕ) (log : List Entry) (x : LedgerState) (event : Event) (ss : List ℕ) (reply : Reply) → LeadsTo p lanes (with_lendings log) (all_home x)
     → Fits p x 0 event ss → reply ≡ reply_of p x event → (b : Bool) → is_change p x event ss ≡ b
@@ -118,17 +118,17 @@ by_change p lanes log x event ss reply h fits answer true is =
 by_change p lanes log x event ss reply h fits answer false is = record { legal = h.legal; state = h.state ∙ sym (unchanged p x event ss is) }
 
 -- a ledger with its history replays after each step
-pub replays_on : (died : ℕ → ℕ → Type 0) (faults : ℕ → Type 0) (h : HeldData) (event : Event) (ss : List ℕ) (reply : Reply) → Replays died faults h → IsSound h.plan h.state
-    → Fits h.plan h.state 0 event ss → IsTrueReport died faults event → reply ≡ reply_of h.plan h.state event
-    → Replays died faults (record { plan = h.plan; lanes = h.lanes; state = after h.plan h.state 0 event ss; history = history_after h event ss reply })
-replays_on died faults h event ss reply r sound fits report answer =
-    let now = by_change h.plan h.lanes h.history h.state event ss reply (leads died faults h r) fits answer (is_change h.plan h.state event ss) refl in
+pub replays_on : (died : ℕ → ℕ → Type 0) (is_bad : ℕ → Type 0) (h : HeldData) (event : Event) (ss : List ℕ) (reply : Reply) → Replays died is_bad h → IsSound h.plan h.state
+    → Fits h.plan h.state 0 event ss → IsTrueReport died is_bad event → reply ≡ reply_of h.plan h.state event
+    → Replays died is_bad (record { plan = h.plan; lanes = h.lanes; state = after h.plan h.state 0 event ss; history = history_after h event ss reply })
+replays_on died is_bad h event ss reply r sound fits report answer =
+    let now = by_change h.plan h.lanes h.history h.state event ss reply (leads died is_bad h r) fits answer (is_change h.plan h.state event ss) refl in
     record {
       plan = r.plan;
       legal = now.legal;
       state = now.state;
-      deaths = death_step died faults h.plan r.plan h.state 0 event ss (has_rows h.plan h.state sound) fits report r.deaths;
-      bad = bad_step died faults h.plan h.state event ss report r.bad;
+      deaths = death_step died is_bad h.plan r.plan h.state 0 event ss (has_rows h.plan h.state sound) fits report r.deaths;
+      bad = bad_step died is_bad h.plan h.state event ss report r.bad;
     }
 
 -- one more change with its shards
@@ -184,18 +184,18 @@ next_core : (old new : CoreData) (event : Event) (ss : List ℕ) (reply : Reply)
 next_core old new event ss reply t = sym (t.kept ∙ ap (λ (x : LedgerState). record old { state = x }) t.step.next)
 
 -- there is room for one more change, and for what comes with it
-pub room_for_change : (died : ℕ → ℕ → Type 0) (faults : ℕ → Type 0) (core : CoreData) (cs : List Change) (b : ReservedData) (room : ℕ) (event : Event) (ss : List ℕ)
-    → KeepsHistory died faults core cs b room → IsSound core.plan core.state → Fits core.plan core.state 0 event ss → is_change core.plan core.state event ss ≡ true → length cs < room
-room_for_change died faults core cs b room event ss h sound fits is =
+pub room_for_change : (died : ℕ → ℕ → Type 0) (is_bad : ℕ → Type 0) (core : CoreData) (cs : List Change) (b : ReservedData) (room : ℕ) (event : Event) (ss : List ℕ)
+    → KeepsHistory died is_bad core cs b room → IsSound core.plan core.state → Fits core.plan core.state 0 event ss → is_change core.plan core.state event ss ≡ true → length cs < room
+room_for_change died is_bad core cs b room event ss h sound fits is =
     let a = h.few in
     let c = counts core.plan core.state event ss sound fits is in
     let d = no_more core.plan (after core.plan core.state 0 event ss) (sound_after core.plan core.state event ss sound fits) in
     let e = h.most in
     omega arith
 
-pub room_for_shards : (died : ℕ → ℕ → Type 0) (faults : ℕ → Type 0) (core : CoreData) (cs : List Change) (b : ReservedData) (room : ℕ) (event : Event) (ss : List ℕ)
-    → KeepsHistory died faults core cs b room → IsSound core.plan core.state → Fits core.plan core.state 0 event ss → length b.shards + length ss ≤ b.room
-room_for_shards died faults core cs b room event ss h sound fits =
+pub room_for_shards : (died : ℕ → ℕ → Type 0) (is_bad : ℕ → Type 0) (core : CoreData) (cs : List Change) (b : ReservedData) (room : ℕ) (event : Event) (ss : List ℕ)
+    → KeepsHistory died is_bad core cs b room → IsSound core.plan core.state → Fits core.plan core.state 0 event ss → length b.shards + length ss ≤ b.room
+room_for_shards died is_bad core cs b room event ss h sound fits =
     let next = sound_after core.plan core.state event ss sound fits in
     let a = lists_grow core.plan core.state event ss sound fits in
     let c = next.few in
@@ -214,20 +214,20 @@ history_told h event ss reply cs b is came change =
     ∙ sym (ap (λ (b : Bool). cond b (h.history ++ entry 0 event ss reply ∷ []) h.history) change)
 
 -- a ledger with its history after a change
-pub history_change : (died : ℕ → ℕ → Type 0) (faults : ℕ → Type 0) (core new : CoreData) (cs : List Change) (b : ReservedData) (room : ℕ) (event : Event) (ss : List ℕ) (reply : Reply)
-    → KeepsHistory died faults core cs b room → IsSound core.plan core.state → IsTrueReport died faults event → TakesWith core event ss reply new
+pub history_change : (died : ℕ → ℕ → Type 0) (is_bad : ℕ → Type 0) (core new : CoreData) (cs : List Change) (b : ReservedData) (room : ℕ) (event : Event) (ss : List ℕ) (reply : Reply)
+    → KeepsHistory died is_bad core cs b room → IsSound core.plan core.state → IsTrueReport died is_bad event → TakesWith core event ss reply new
     → is_change core.plan core.state event ss ≡ true
-    → KeepsHistory died faults new (cs ++ (record { event = event; reply = reply; shards = length ss }) ∷ []) (record { room = b.room; shards = b.shards ++ ss }) room
-history_change died faults core new cs b room event ss reply h sound report t is =
+    → KeepsHistory died is_bad new (cs ++ (record { event = event; reply = reply; shards = length ss }) ∷ []) (record { room = b.room; shards = b.shards ++ ss }) room
+history_change died is_bad core new cs b room event ss reply h sound report t is =
     let p = core.plan in
     let fits = t.step.fits in
     let c : Change = record { event = event; reply = reply; shards = length ss } in
     let told = history_told (held_data core cs b) event ss reply cs b.shards refl h.came is in
     let grown = lists_grow p core.state event ss sound fits in
     let more = counts p core.state event ss sound fits is in
-    subst (λ (d : CoreData). KeepsHistory died faults d (cs ++ c ∷ []) (record { room = b.room; shards = b.shards ++ ss }) room) (next_core core new event ss reply t) (record {
-      replays = subst (λ (l : List Entry). Replays died faults (record { plan = p; lanes = core.lanes; state = after p core.state 0 event ss; history = l })) (sym told)
-          (replays_on died faults (held_data core cs b) event ss reply h.replays sound fits report t.step.answer);
+    subst (λ (d : CoreData). KeepsHistory died is_bad d (cs ++ c ∷ []) (record { room = b.room; shards = b.shards ++ ss }) room) (next_core core new event ss reply t) (record {
+      replays = subst (λ (l : List Entry). Replays died is_bad (record { plan = p; lanes = core.lanes; state = after p core.state 0 event ss; history = l })) (sym told)
+          (replays_on died is_bad (held_data core cs b) event ss reply h.replays sound fits report t.step.answer);
       came = sum_by_push (λ (e : Change). e.shards) cs c ∙ ap (λ (n : ℕ). n + length ss) h.came ∙ sym (length-append b.shards ss);
       placed = length-append b.shards ss ∙ ap (λ (n : ℕ). n + length ss) h.placed ∙ sym grown;
       few = (let a = length-append cs (c ∷ []) in let f = h.few in omega arith);
@@ -236,10 +236,10 @@ history_change died faults core new cs b room event ss reply h sound report t is
     })
 
 -- and after what is none
-pub history_same : (died : ℕ → ℕ → Type 0) (faults : ℕ → Type 0) (core new : CoreData) (cs : List Change) (b : ReservedData) (room : ℕ) (event : Event) (ss : List ℕ) (reply : Reply)
-    → KeepsHistory died faults core cs b room → IsSound core.plan core.state → IsTrueReport died faults event → TakesWith core event ss reply new
-    → is_change core.plan core.state event ss ≡ false → KeepsHistory died faults new cs b room
-history_same died faults core new cs b room event ss reply h sound report t is =
+pub history_same : (died : ℕ → ℕ → Type 0) (is_bad : ℕ → Type 0) (core new : CoreData) (cs : List Change) (b : ReservedData) (room : ℕ) (event : Event) (ss : List ℕ) (reply : Reply)
+    → KeepsHistory died is_bad core cs b room → IsSound core.plan core.state → IsTrueReport died is_bad event → TakesWith core event ss reply new
+    → is_change core.plan core.state event ss ≡ false → KeepsHistory died is_bad new cs b room
+history_same died is_bad core new cs b room event ss reply h sound report t is =
     let p = core.plan in
     let fits = t.step.fits in
     let same : history_after (held_data core cs b) event ss reply ≡ history_of cs b.shards =
@@ -247,9 +247,9 @@ history_same died faults core new cs b room event ss reply h sound report t is =
     let grown = lists_grow p core.state event ss sound fits in
     let none = none_came p core.state event ss fits is in
     let equal : changes_in p (after p core.state 0 event ss) ≡ changes_in p core.state = ap (changes_in p) (unchanged p core.state event ss is) in
-    subst (λ (d : CoreData). KeepsHistory died faults d cs b room) (next_core core new event ss reply t) (record {
-      replays = subst (λ (l : List Entry). Replays died faults (record { plan = p; lanes = core.lanes; state = after p core.state 0 event ss; history = l })) same
-          (replays_on died faults (held_data core cs b) event ss reply h.replays sound fits report t.step.answer);
+    subst (λ (d : CoreData). KeepsHistory died is_bad d cs b room) (next_core core new event ss reply t) (record {
+      replays = subst (λ (l : List Entry). Replays died is_bad (record { plan = p; lanes = core.lanes; state = after p core.state 0 event ss; history = l })) same
+          (replays_on died is_bad (held_data core cs b) event ss reply h.replays sound fits report t.step.answer);
       came = h.came;
       placed = (let a = h.placed in omega arith);
       few = (let f = h.few in omega arith);

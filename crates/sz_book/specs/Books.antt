@@ -102,9 +102,9 @@ lanes_home homes = filter_map (λ home. home) homes
 -- What is left of a shelf: just the lanes that it has at home, in their order and each with the shards that the state has for it, and
 -- rows that show the state. With a lending in front of each return the shelf's history is legal, and leads to the state but for which
 -- lanes are out. Each noted death is of an attempt that died, and the least bad shard is bad
-pub record IsLeft (died : ℕ → ℕ → Type 0) (faults : ℕ → Type 0) (shelf : ShelfData)
+pub record IsLeft (died : ℕ → ℕ → Type 0) (is_bad : ℕ → Type 0) (shelf : ShelfData)
     (lanes : List LaneData) (won notes : List ℕ) (bad : Option ℕ) : Type 0 where
-  pub replays : Replays died faults shelf.ledger
+  pub replays : Replays died is_bad shelf.ledger
   pub placed : AreInPlace shelf.ledger.state shelf.homes
   pub lanes_are : lanes ≡ lanes_home shelf.homes
   pub shows : Shows shelf.ledger.state won notes bad

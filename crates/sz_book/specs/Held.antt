@@ -58,12 +58,12 @@ with_lendings (e ∷ es) = lending e.event ++ e ∷ with_lendings es
 -- What the type of a ledger with its history keeps: with a lending in front of each return the history is legal, and leads to the state
 -- but for which lanes are out. Each noted death is of an attempt that died, and the least shard marked bad is
 -- one of those that are bad
-pub record Replays (died : ℕ → ℕ → Type 0) (faults : ℕ → Type 0) (h : HeldData) : Type 0 where
+pub record Replays (died : ℕ → ℕ → Type 0) (is_bad : ℕ → Type 0) (h : HeldData) : Type 0 where
   pub plan : IsPlan h.plan
   pub legal : IsLegal h.plan h.lanes (with_lendings h.history)
   pub state : state_after h.plan (opening h.plan h.lanes) (with_lendings h.history) ≡ all_home h.state
   pub deaths : (s k : ℕ) → bit_at (slice_index h.state.deaths s) k ≡ 1 → died s k
-  pub bad : h.state.least_bad < 2 ^ 32 → faults h.state.least_bad
+  pub bad : h.state.least_bad < 2 ^ 32 → is_bad h.state.least_bad
 
 -- an event that fits is a change exactly where it leaves another state, but for which lanes are out
 abbrev pub ChangesAreSeen : Type 0
@@ -96,9 +96,9 @@ abbrev pub held_data : CoreData → List Change → ReservedData → HeldData
 held_data core changes brought = record { plan = core.plan; lanes = core.lanes; state = core.state; history = history_of changes brought.shards }
 
 -- the same with the room for all that may still come
-pub record KeepsHistory (died : ℕ → ℕ → Type 0) (faults : ℕ → Type 0) (core : CoreData) (changes : List Change) (brought : ReservedData)
+pub record KeepsHistory (died : ℕ → ℕ → Type 0) (is_bad : ℕ → Type 0) (core : CoreData) (changes : List Change) (brought : ReservedData)
     (room : ℕ) : Type 0 where
-  pub replays : Replays died faults (held_data core changes brought)
+  pub replays : Replays died is_bad (held_data core changes brought)
   pub came : shards_in changes ≡ length brought.shards
   pub placed : length brought.shards ≡ sum_by length core.state.lists
   pub few : length changes ≤ changes_in core.plan core.state

@@ -155,7 +155,7 @@ impl<T: Load> Book<T> {
     // Takes in an event that is of no lane, if it fits.
     fn ask<W: Wait>(&self, rt: &W, event: &Event) -> Option<Reply>
         requires plain { IsPlain event.now }
-        requires report { IsTrueReport T.died T.faults event.now }
+        requires report { IsTrueReport T.died T.is_bad event.now }
     {
         self.shelf.lock(rt).ask(event)
     }
@@ -225,7 +225,7 @@ impl<T: Load> Book<T> {
     /// Reports that a shard is bad: more of its records fault than may be passed over, and not all its attempts died. Shards are numbered
     /// from 0.
     pub fn bad<W: Wait>(&self, rt: &W, pass: &mut BookPass, shard: u32)
-        requires faults { T.faults shard }
+        requires bad { T.is_bad shard }
         ensures kept { pass.new ≡ pass.old }
     {
         self.ask(rt, &Event::Bad(shard));
@@ -234,7 +234,7 @@ impl<T: Load> Book<T> {
     /// What the book has at its end: the lanes that are home, and the rows of the state.
     pub fn close<W: Wait>(self, _rt: &W, _pass: BookPass) -> Closed<T>
         ensures rows { (length result.settled ≡ self.plan.shards) × (length result.deaths ≡ self.plan.shards) }
-        ensures left { (shelf : ShelfData) × IsLeft T.died T.faults shelf result.lanes.items result.settled result.deaths result.least_bad }
+        ensures left { (shelf : ShelfData) × IsLeft T.died T.is_bad shelf result.lanes.items result.settled result.deaths result.least_bad }
     {
         let Book {
             plan: _,

@@ -44,7 +44,7 @@ impl<T: Load> Model for Held<T> {
 
     ghost view = { λ held. held_data held.core held.changes.items held.brought };
 
-    ghost invariant = { λ held. KeepsHistory T.died T.faults held.core held.changes.items held.brought (vec_capacity held.changes) };
+    ghost invariant = { λ held. KeepsHistory T.died T.is_bad held.core held.changes.items held.brought (vec_capacity held.changes) };
 }
 
 // Puts a change after the others, with the shards that came with it.
@@ -93,7 +93,7 @@ impl<T: Load> Held<T> {
     /// Whether the event fits the state, with the shards that come with a lane. None come with any other event.
     pub fn fits(&self, event: &Event, shards: &[u32]) -> bool
         ensures fits { (result ≡ true) ↔ Fits self.now.plan self.now.state 0 event.now shards.now }
-        ensures kept { Replays T.died T.faults self.now }
+        ensures kept { Replays T.died T.is_bad self.now }
     {
         self.core.fits_with(event, shards)
     }
@@ -109,7 +109,7 @@ impl<T: Load> Held<T> {
     /// Takes in one event, with the shards that come with a lane, and answers it. It takes no memory.
     pub fn apply(&mut self, event: &Event, shards: &[u32]) -> Reply
         requires fits { Fits self.old.plan self.old.state 0 event.now shards.now }
-        requires report { IsTrueReport T.died T.faults event.now }
+        requires report { IsTrueReport T.died T.is_bad event.now }
         ensures applied { Applies self.old event.now shards.now result self.new }
     {
         let is_change = self.core.is_change(event, shards);
@@ -125,7 +125,7 @@ impl<T: Load> Held<T> {
     pub fn show(&self, winners: &mut Vec<u64>, deaths: &mut Vec<u64>) -> Option<u32>
         ensures rows { (length winners.new.items ≡ length winners.old.items) × (length deaths.new.items ≡ length deaths.old.items) }
         ensures shows { Shows self.now.state winners.new.items deaths.new.items result }
-        ensures kept { Replays T.died T.faults self.now }
+        ensures kept { Replays T.died T.is_bad self.now }
     {
         copy_row(self.core.winners(), winners);
         copy_row(self.core.deaths(), deaths);

@@ -6,7 +6,7 @@ use crate::load::Load;
 
 /// Where reports are true, each noted death is of an attempt that died.
 pub fn noted_deaths_are_true<T: Load>()
-    ensures true_deaths { NotedDeathsAreTrue T.died T.faults }
+    ensures true_deaths { NotedDeathsAreTrue T.died T.is_bad }
 {}
 
 /// A ledger's history has just the calls that left another state, but for which lanes are out.

@@ -9,7 +9,7 @@ pub trait Load: Sized + Drop {
     ghost died: { ℕ → ℕ → Type 0 };
 
     /// Which shards are bad, by their numbers from 0: more of their records fault than may be passed over, and not all their attempts died.
-    ghost faults: { ℕ → Type 0 };
+    ghost is_bad: { ℕ → Type 0 };
 
     /// The plan of a value.
     ghost plan: { Self → PlanData };

@@ -75,7 +75,7 @@ impl<T: Load> Shelf<T> {
     /// Takes in an event that is of no lane, and answers it. None where it doesn't fit.
     pub fn ask(&mut self, event: &Event) -> Option<Reply>
         requires plain { IsPlain event.now }
-        requires report { IsTrueReport T.died T.faults event.now }
+        requires report { IsTrueReport T.died T.is_bad event.now }
         ensures some { IfSome result (λ reply. AsksAndTakes self.old event.now reply self.new) }
         ensures none { IfNone result (Refuses self.old event.now [] self.new) }
     {
@@ -119,7 +119,7 @@ impl<T: Load> Shelf<T> {
     /// What is left of the shelf: the lanes that are home, in their order, and the rows for the winners and the deaths.
     pub fn close(self, settled: Vec<u64>, deaths: Vec<u64>) -> Closed<T>
         ensures rows { (length result.settled ≡ length settled.items) × (length result.deaths ≡ length deaths.items) }
-        ensures left { IsLeft T.died T.faults self result.lanes.items result.settled result.deaths result.least_bad }
+        ensures left { IsLeft T.died T.is_bad self result.lanes.items result.settled result.deaths result.least_bad }
     {
         let Shelf {
             ledger,

@@ -255,24 +255,24 @@ one_death died x c k low true_is h s j bit = by_shard (c.shard == s) refl where
   by_shard true is = here (j == k) refl (eqb-true c.shard s is) (ap (λ (d : ℕ). bit_at d j) (sym (set_here x.deaths c.shard s _ low is)) ∙ bit)
   by_shard false is = h s j (ap (λ (d : ℕ). bit_at d j) (sym (set_there x.deaths c.shard s _ is)) ∙ bit)
 
-pub death_step : (died : ℕ → ℕ → Type 0) (faults : ℕ → Type 0) (p : PlanData) → IsPlan p → (x : LedgerState) (n : ℕ) (e : Event) (ss : List ℕ) → HasRows p x
-    → Fits p x n e ss → IsTrueReport died faults e → AreDeaths died x → AreDeaths died (after p x n e ss)
-death_step died faults p plan x n Draw ss rows fits t h = either (AreDeaths died) (nat_lt x.drawn (count_of p)) (record x { drawn = x.drawn + 1 }) x h h
-death_step died faults p plan x n (Number c) ss rows fits t h = either (AreDeaths died) (nat_lt (slice_index x.given c.shard) p.attempts) (record x { given = set x.given c.shard (slice_index x.given c.shard + 1) }) x h h
-death_step died faults p plan x n (Died c k) ss rows fits t h =
+pub death_step : (died : ℕ → ℕ → Type 0) (is_bad : ℕ → Type 0) (p : PlanData) → IsPlan p → (x : LedgerState) (n : ℕ) (e : Event) (ss : List ℕ) → HasRows p x
+    → Fits p x n e ss → IsTrueReport died is_bad e → AreDeaths died x → AreDeaths died (after p x n e ss)
+death_step died is_bad p plan x n Draw ss rows fits t h = either (AreDeaths died) (nat_lt x.drawn (count_of p)) (record x { drawn = x.drawn + 1 }) x h h
+death_step died is_bad p plan x n (Number c) ss rows fits t h = either (AreDeaths died) (nat_lt (slice_index x.given c.shard) p.attempts) (record x { given = set x.given c.shard (slice_index x.given c.shard + 1) }) x h h
+death_step died is_bad p plan x n (Died c k) ss rows fits t h =
     let within = shard_within p x c plan fits.1.claim in
     one_death died x c k (let b = rows.deaths in omega (arith, within, b)) t h
-death_step died faults p plan x n (Settle c k) ss rows fits t h = either (AreDeaths died) (slice_index x.winners c.shard == 0) (record x { winners = set x.winners c.shard (k + 1); unplaced = set x.unplaced c.shard (n + 1) }) x h h
-death_step died faults p plan x n (LaneOut i) ss rows fits t h = either (AreDeaths died) (slice_index x.outs i == 0) (record x { outs = set x.outs i 1 }) x h h
-death_step died faults p plan x n (LaneBack i) ss rows fits t h = h
-death_step died faults p plan x n (Bad b) ss rows fits t h = h
+death_step died is_bad p plan x n (Settle c k) ss rows fits t h = either (AreDeaths died) (slice_index x.winners c.shard == 0) (record x { winners = set x.winners c.shard (k + 1); unplaced = set x.unplaced c.shard (n + 1) }) x h h
+death_step died is_bad p plan x n (LaneOut i) ss rows fits t h = either (AreDeaths died) (slice_index x.outs i == 0) (record x { outs = set x.outs i 1 }) x h h
+death_step died is_bad p plan x n (LaneBack i) ss rows fits t h = h
+death_step died is_bad p plan x n (Bad b) ss rows fits t h = h
 
-deaths_along : (died : ℕ → ℕ → Type 0) (faults : ℕ → Type 0) (p : PlanData) → IsPlan p → (x : LedgerState) (es : List Entry) → HasRows p x → IsLegalFrom p x es
-    → AreTrueReports died faults es → AreDeaths died x → AreDeaths died (state_after p x es)
-deaths_along died faults p plan x [] rows h t now = now
-deaths_along died faults p plan x (e ∷ es) rows h t now =
-    deaths_along died faults p plan (after p x e.by e.event e.shards) es (rows_kept p x e.by e.event e.shards rows) h.2 t.1
-    (death_step died faults p plan x e.by e.event e.shards rows h.0 t.0 now)
+deaths_along : (died : ℕ → ℕ → Type 0) (is_bad : ℕ → Type 0) (p : PlanData) → IsPlan p → (x : LedgerState) (es : List Entry) → HasRows p x → IsLegalFrom p x es
+    → AreTrueReports died is_bad es → AreDeaths died x → AreDeaths died (state_after p x es)
+deaths_along died is_bad p plan x [] rows h t now = now
+deaths_along died is_bad p plan x (e ∷ es) rows h t now =
+    deaths_along died is_bad p plan (after p x e.by e.event e.shards) es (rows_kept p x e.by e.event e.shards rows) h.2 t.1
+    (death_step died is_bad p plan x e.by e.event e.shards rows h.0 t.0 now)
 
 pub no_number : (n s : ℕ) → slice_index (replicate n 0) s ≡ 0
 no_number zero s = refl
@@ -283,9 +283,9 @@ no_list : (n s : ℕ) → sum_by (times s) (replicate n []) ≡ 0
 no_list zero s = refl
 no_list (suc n) s = let a = sum_by-cons (times s) [] (replicate n []) in let b = no_list n s in omega (arith, a, b)
 
-pub noted_deaths_are_true : (died : ℕ → ℕ → Type 0) (faults : ℕ → Type 0) → NotedDeathsAreTrue died faults
-noted_deaths_are_true died faults p lanes log plan legal t =
-    deaths_along died faults p plan (opening p lanes) log (rows_open p lanes) legal.from t
+pub noted_deaths_are_true : (died : ℕ → ℕ → Type 0) (is_bad : ℕ → Type 0) → NotedDeathsAreTrue died is_bad
+noted_deaths_are_true died is_bad p lanes log plan legal t =
+    deaths_along died is_bad p plan (opening p lanes) log (rows_open p lanes) legal.from t
     (λ s k bit. absurd (let none : bit_at (slice_index (replicate p.shards 0) s) k ≡ 0 = ap (λ (d : ℕ). bit_at d k) (no_number p.shards s) ∙ bit_at-zero k in let one : bit_at (slice_index (replicate p.shards 0) s) k ≡ 1 = bit in omega (arith, none, one)))
 
 -- the number of tickets drawn, and of numbers given, is in its bounds

@@ -22,10 +22,10 @@ pub legal-snoc : (p : PlanData) (lanes : ℕ) (es : List Entry) (e : Entry) → 
 legal-snoc p lanes es e h f r = record { from = from-snoc p (opening p lanes) es e h.from f r }
 
 -- true reports with one more are true
-pub reports-snoc : (died : ℕ → ℕ → Type 0) (faults : ℕ → Type 0) (es : List Entry) (e : Entry) → AreTrueReports died faults es
-    → IsTrueReport died faults e.event → AreTrueReports died faults (es ++ e ∷ [])
-reports-snoc died faults [] e h r = (r, tt)
-reports-snoc died faults (d ∷ es) e h r = (h.0, reports-snoc died faults es e h.1 r)
+pub reports-snoc : (died : ℕ → ℕ → Type 0) (is_bad : ℕ → Type 0) (es : List Entry) (e : Entry) → AreTrueReports died is_bad es
+    → IsTrueReport died is_bad e.event → AreTrueReports died is_bad (es ++ e ∷ [])
+reports-snoc died is_bad [] e h r = (r, tt)
+reports-snoc died is_bad (d ∷ es) e h r = (h.0, reports-snoc died is_bad es e h.1 r)
 
 kept_first : (b : Bool) (e : Entry) (xs ys zs : List Entry) → zs ≡ xs ++ ys → cond b (e ∷ zs) zs ≡ cond b (e ∷ xs) xs ++ ys
 kept_first true e xs ys zs h = ap (λ (l : List Entry). e ∷ l) h

@@ -83,8 +83,8 @@ TheWinnerStays = (p : PlanData) (lanes : ℕ) (front back : List Entry) (s w : �
 
 -- where reports are true, each noted death is of an attempt that died
 abbrev pub NotedDeathsAreTrue : (ℕ → ℕ → Type 0) → (ℕ → Type 0) → Type 0
-NotedDeathsAreTrue died faults = (p : PlanData) (lanes : ℕ) (log : List Entry) → IsPlan p → IsLegal p lanes log
-    → AreTrueReports died faults log → (s k : ℕ) → bit_at (slice_index (left_by p lanes log).deaths s) k ≡ 1 → died s k
+NotedDeathsAreTrue died is_bad = (p : PlanData) (lanes : ℕ) (log : List Entry) → IsPlan p → IsLegal p lanes log
+    → AreTrueReports died is_bad log → (s k : ℕ) → bit_at (slice_index (left_by p lanes log).deaths s) k ≡ 1 → died s k
 
 -- once each ticket has ended, each shard below the least bad one of which not all attempts died is settled
 abbrev pub EachShardIsDecided : Type 0

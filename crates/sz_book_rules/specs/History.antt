@@ -84,15 +84,15 @@ AreApart ss ts = (s : ℕ) → IsAmong s ss → ¬ IsAmong s ts
 -- a reported death is of an attempt that died, and a shard marked bad is bad: more of its records fault than may be passed over, and
 -- not all its attempts died
 abbrev pub IsTrueReport : (ℕ → ℕ → Type 0) → (ℕ → Type 0) → Event → Type 0
-IsTrueReport died faults (Died c k) = died c.shard k
-IsTrueReport died faults (Bad s) = faults s
-IsTrueReport died faults Draw = Unit {0}
-IsTrueReport died faults (Number c) = Unit {0}
-IsTrueReport died faults (Settle c k) = Unit {0}
-IsTrueReport died faults (LaneOut i) = Unit {0}
-IsTrueReport died faults (LaneBack i) = Unit {0}
+IsTrueReport died is_bad (Died c k) = died c.shard k
+IsTrueReport died is_bad (Bad s) = is_bad s
+IsTrueReport died is_bad Draw = Unit {0}
+IsTrueReport died is_bad (Number c) = Unit {0}
+IsTrueReport died is_bad (Settle c k) = Unit {0}
+IsTrueReport died is_bad (LaneOut i) = Unit {0}
+IsTrueReport died is_bad (LaneBack i) = Unit {0}
 
 -- every report of the history is true
 abbrev pub AreTrueReports : (ℕ → ℕ → Type 0) → (ℕ → Type 0) → List Entry → Type 0
-AreTrueReports died faults [] = Unit {0}
-AreTrueReports died faults (e ∷ es) = IsTrueReport died faults e.event × AreTrueReports died faults es
+AreTrueReports died is_bad [] = Unit {0}
+AreTrueReports died is_bad (e ∷ es) = IsTrueReport died is_bad e.event × AreTrueReports died is_bad es

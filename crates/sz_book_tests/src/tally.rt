@@ -18,7 +18,7 @@ pub struct Tally {
 impl Load for Tally {
     ghost died = { λ s k. Unit {0} };
 
-    ghost faults = { λ s. Unit {0} };
+    ghost is_bad = { λ s. Unit {0} };
 
     ghost plan = { λ tally. tally.plan.value };
 

@@ -42,14 +42,14 @@ others p lanes log x y made joined e u apart same k = record {
 }
 
 -- the call of a pass, and what it then shows and holds
-pub record IsCall (died : ℕ → ℕ → Type 0) (faults : ℕ
+pub record IsCall (died : ℕ → ℕ → Type 0) (is_bad : ℕ
     → Type 0) (p : PlanData) (lanes : ℕ) (s : State Slot View) (log : List Entry) (made id : ℕ) (v : View) (e : Entry) (lane : ℕ)
     (lent words : List ℕ) (homes : List (Maybe Slot)) : Type 0 where
   pub at : IsAt s.views id v
   pub by : e.by ≡ v.number
   pub fits : Fits p (state_after p (opening p lanes) log) e.by e.event e.shards
   pub answer : e.reply ≡ reply_of p (state_after p (opening p lanes) log) e.event
-  pub report : IsTrueReport died faults e.event
+  pub report : IsTrueReport died is_bad e.event
   pub shows : Shows p lanes words homes (after p (state_after p (opening p lanes) log) e.by e.event e.shards)
   pub bounded : IsBounded p words (log ++ e ∷ []) made
   pub mine : (i : ℕ) → lane ≡ i + 1 → IsOut lanes (after p (state_after p (opening p lanes) log) e.by e.event e.shards) i lent
@@ -61,12 +61,12 @@ pub record IsCall (died : ℕ → ℕ → Type 0) (faults : ℕ
       → (lane ≡ i + 1) ⊎ ((j : ℕ) × (u : View) × IsAt s.views j u × (j ≢ id) × (u.lane ≡ i + 1))
 
 -- the rule after a call
-pub kept_after : (died : ℕ → ℕ → Type 0) (faults : ℕ
-    → Type 0) (p : PlanData) (lanes : ℕ) (s : State Slot View) (h : Kept died faults p lanes s) (id : ℕ) (v : View) (e : Entry) (lane : ℕ)
+pub kept_after : (died : ℕ → ℕ → Type 0) (is_bad : ℕ
+    → Type 0) (p : PlanData) (lanes : ℕ) (s : State Slot View) (h : Kept died is_bad p lanes s) (id : ℕ) (v : View) (e : Entry) (lane : ℕ)
     (lent words : List ℕ) (homes : List (Maybe Slot))
-    → IsCall died faults p lanes s h.log h.made id v e lane lent words homes
-    → Kept died faults p lanes record { words = words; homes = homes; views = set s.views id (calling v h.log e lane lent) }
-kept_after died faults p lanes s h id v e lane lent words homes c =
+    → IsCall died is_bad p lanes s h.log h.made id v e lane lent words homes
+    → Kept died is_bad p lanes record { words = words; homes = homes; views = set s.views id (calling v h.log e lane lent) }
+kept_after died is_bad p lanes s h id v e lane lent words homes c =
     let x : LedgerState = state_after p (opening p lanes) h.log in
     let y : LedgerState = after p x e.by e.event e.shards in
     let w : View = calling v h.log e lane lent in
@@ -78,7 +78,7 @@ kept_after died faults p lanes s h id v e lane lent words homes c =
       joined = h.joined;
       plan = h.plan;
       legal = legal-snoc p lanes h.log e h.legal c.fits c.answer;
-      reports = reports-snoc died faults h.log e h.reports c.report;
+      reports = reports-snoc died is_bad h.log e h.reports c.report;
       shows = subst (λ (z : LedgerState). Shows p lanes words homes z) (sym next) c.shows;
       bounded = c.bounded;
       small = h.small;
@@ -126,11 +126,11 @@ kept_after died faults p lanes s h id v e lane lent words homes c =
     }
 
 -- what the pass knows after a call
-pub follows : (died : ℕ → ℕ → Type 0) (faults : ℕ
-    → Type 0) (p : PlanData) (lanes : ℕ) (s : State Slot View) (h : Kept died faults p lanes s) (id : ℕ) (v : View) (e : Entry) (lane : ℕ)
+pub follows : (died : ℕ → ℕ → Type 0) (is_bad : ℕ
+    → Type 0) (p : PlanData) (lanes : ℕ) (s : State Slot View) (h : Kept died is_bad p lanes s) (id : ℕ) (v : View) (e : Entry) (lane : ℕ)
     (lent : List ℕ)
     → IsAt s.views id v → e.by ≡ v.number → IsLegal p lanes (h.log ++ e ∷ []) → Follows v h.log (calling v h.log e lane lent)
-follows died faults p lanes s h id v e lane lent at by legal =
+follows died is_bad p lanes s h id v e lane lent at by legal =
     let t = h.knows id v at in record {
       seen = t.seen;
       told = t.told;
@@ -175,10 +175,10 @@ borrowed_by p lanes vs id v x at borrowed i low out =
     (λ (ne : h.0 ≢ id). inr (h.0, h.1, h.2, ne, h.3))
 
 -- a call that leaves the lanes alone
-pub calls : (died : ℕ → ℕ → Type 0) (faults : ℕ → Type 0) (p : PlanData) (lanes slots id : ℕ) (me : Me Slot View) (i : ℕ) (f : ℕ
-    → ℕ) (event : Event) (reply : ℕ → Reply) → MayCall died faults p lanes me.0 i f event reply
-    → Allows (Kept died faults p lanes) slots id me i f (λ n after. Called me.0 event [] (reply n) me.0.lane me.0.lent after.0 × (after.1 ≡ me.1))
-calls died faults p lanes slots id me i f event reply may s h same at small =
+pub calls : (died : ℕ → ℕ → Type 0) (is_bad : ℕ → Type 0) (p : PlanData) (lanes slots id : ℕ) (me : Me Slot View) (i : ℕ) (f : ℕ
+    → ℕ) (event : Event) (reply : ℕ → Reply) → MayCall died is_bad p lanes me.0 i f event reply
+    → Allows (Kept died is_bad p lanes) slots id me i f (λ n after. Called me.0 event [] (reply n) me.0.lane me.0.lent after.0 × (after.1 ≡ me.1))
+calls died is_bad p lanes slots id me i f event reply may s h same at small =
     let v : View = me.0 in
     let here : IsAt s.views id v = (at, may.live) in
     let t = h.knows id v here in
@@ -192,7 +192,7 @@ calls died faults p lanes slots id me i f event reply may s h same at small =
       calling v h.log e v.lane v.lent,
       keeps,
       tt,
-      kept_after died faults p lanes s h id v e v.lane v.lent (slice_set s.words i (f (slice_index s.words i))) s.homes
+      kept_after died is_bad p lanes s h id v e v.lane v.lent (slice_set s.words i (f (slice_index s.words i))) s.homes
           record {
             at = here;
             by = refl;
@@ -205,7 +205,7 @@ calls died faults p lanes slots id me i f event reply may s h same at small =
             away = λ j u there ne k has. ((λ own. ne (h.borrowed.once j id k u v there here has own)), outs k, lists k);
             borrowed = λ k low out. borrowed_by p lanes s.views id v x here h.borrowed k low (sym (outs k) ∙ out);
           },
-      ((h.log, refl, follows died faults p lanes s h id v e v.lane v.lent here refl legal), refl),
+      ((h.log, refl, follows died is_bad p lanes s h id v e v.lane v.lent here refl legal), refl),
     )
 
 seen_all : (p : PlanData) (lanes : ℕ) (log : List Entry) (x : LedgerState) (made : ℕ) (joined : List Account) (views : List View) (id : ℕ) (v : View)
@@ -230,9 +230,9 @@ seen_all p lanes log x made joined views id v at knows j u there =
     (λ (away : (j ≢ id) × IsAt views j u). knows j u away.1)
     (was views id (looking v log) j u there)
 
-pub looks : (died : ℕ → ℕ → Type 0) (faults : ℕ → Type 0) (p : PlanData) (lanes slots id : ℕ) (me : Me Slot View) (i : ℕ) → 0 < me.0.weight
-    → Allows (Kept died faults p lanes) slots id me i (λ n. n) (λ n after. Looked me.0 after.0 × (after.1 ≡ me.1))
-looks died faults p lanes slots id me i live s h same at small =
+pub looks : (died : ℕ → ℕ → Type 0) (is_bad : ℕ → Type 0) (p : PlanData) (lanes slots id : ℕ) (me : Me Slot View) (i : ℕ) → 0 < me.0.weight
+    → Allows (Kept died is_bad p lanes) slots id me i (λ n. n) (λ n after. Looked me.0 after.0 × (after.1 ≡ me.1))
+looks died is_bad p lanes slots id me i live s h same at small =
     let v : View = me.0 in
     let here : IsAt s.views id v = (at, live) in
     let t = h.knows id v here in

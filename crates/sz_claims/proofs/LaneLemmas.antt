@@ -99,10 +99,10 @@ back_slots p lanes i words homes outs lists list low count h =
     }
 
 -- the step by which a pass asks for a lane
-pub lends : (died : ℕ → ℕ → Type 0) (faults : ℕ → Type 0) (p : PlanData) (lanes slots id : ℕ) (me : Me Slot View) (i : ℕ) → i < lanes
+pub lends : (died : ℕ → ℕ → Type 0) (is_bad : ℕ → Type 0) (p : PlanData) (lanes slots id : ℕ) (me : Me Slot View) (i : ℕ) → i < lanes
     → 0 < me.0.weight → me.0.lane ≡ 0
-    → Allows (Kept died faults p lanes) slots id me (turn_at p i) (λ m. either (m == 0) 1 m) (Lent i me)
-lends died faults p lanes slots id me i low live idle s h same at fits =
+    → Allows (Kept died is_bad p lanes) slots id me (turn_at p i) (λ m. either (m == 0) 1 m) (Lent i me)
+lends died is_bad p lanes slots id me i low live idle s h same at fits =
     let v : View = me.0 in
     let here : IsAt s.views id v = (at, live) in
     let t = h.knows id v here in
@@ -112,7 +112,7 @@ lends died faults p lanes slots id me i low live idle s h same at fits =
     let c = h.shows.slots.counts in
     let turn : m ≡ slice_index x.outs i = h.shows.slots.turns i low in
     let y : LedgerState = after p x v.number (LaneOut i) [] in
-    let F : ℕ → Type 0 = λ n. (w : View) × (a : Act Slot) × Valid s.homes me.1 a × Kept died faults p lanes (stepped s j n id me.1 w a)
+    let F : ℕ → Type 0 = λ n. (w : View) × (a : Act Slot) × Valid s.homes me.1 a × Kept died is_bad p lanes (stepped s j n id me.1 w a)
     × Lent i me m (w, carried_after me.1 a) in
     exchanged m 0 1 F
     (λ (hit : m ≡ 0).
@@ -135,14 +135,14 @@ lends died faults p lanes slots id me i low live idle s h same at fits =
     × (in_slots ≡ (i, Some (lane_data v.plan list')) ∷ me.1) in
     let has : Has = (
       list,
-      (h.log, refl, follows died faults p lanes s h id v e (i + 1) list here refl legal),
+      (h.log, refl, follows died is_bad p lanes s h id v e (i + 1) list here refl legal),
       seen',
       ap (λ (q : PlanData). (i, Some (lane_data q list)) ∷ me.1) (sym t.plan),
     ) in (
       w,
       takes i (Some (lane_data p list)),
       h.shows.slots.home i low zeroth,
-      kept_after died faults p lanes s h id v e (i + 1) list (set s.words j 1) (set s.homes i none)
+      kept_after died is_bad p lanes s h id v e (i + 1) list (set s.words j 1) (set s.homes i none)
           record {
             at = here;
             by = refl;
@@ -183,7 +183,7 @@ lends died faults p lanes slots id me i low live idle s h same at fits =
       w,
       keeps,
       tt,
-      kept_after died faults p lanes s h id v e v.lane v.lent (set s.words j m) s.homes
+      kept_after died is_bad p lanes s h id v e v.lane v.lent (set s.words j m) s.homes
           record {
             at = here;
             by = refl;
@@ -198,15 +198,15 @@ lends died faults p lanes slots id me i low live idle s h same at fits =
             borrowed = λ k low' out. borrowed_by p lanes s.views id v x here h.borrowed k low' (sym (outs k) ∙ out);
           },
       subst (λ (b : Bool). MatchBool b Has (Called v (LaneOut i) [] (Lane false) v.lane v.lent w × (me.1 ≡ me.1))) (sym (ne_eqb m 0 miss))
-          ((h.log, refl, follows died faults p lanes s h id v e v.lane v.lent here refl legal), refl),
+          ((h.log, refl, follows died is_bad p lanes s h id v e v.lane v.lent here refl legal), refl),
     ))
 
 -- the step by which a lane comes home
-pub gives_back : (died : ℕ → ℕ → Type 0) (faults : ℕ → Type 0) (p : PlanData) (lanes slots id : ℕ) (v : View) (i : ℕ) (list shards : List ℕ)
+pub gives_back : (died : ℕ → ℕ → Type 0) (is_bad : ℕ → Type 0) (p : PlanData) (lanes slots id : ℕ) (v : View) (i : ℕ) (list shards : List ℕ)
     → 0 < v.weight → v.lane ≡ i + 1 → v.lent ++ shards ≡ list → AreInHand shards v.mine
-    → Allows (Kept died faults p lanes) slots id (v, (i, Some (lane_data v.plan list)) ∷ []) (turn_at p i) (λ _. 0)
+    → Allows (Kept died is_bad p lanes) slots id (v, (i, Some (lane_data v.plan list)) ∷ []) (turn_at p i) (λ _. 0)
     (λ _. Given i shards (v, (i, Some (lane_data v.plan list)) ∷ []))
-gives_back died faults p lanes slots id v i list shards live has long hand s h same at fits =
+gives_back died is_bad p lanes slots id v i list shards live has long hand s h same at fits =
     let here : IsAt s.views id v = (at, live) in
     let t = h.knows id v here in
     let l = t.lane i has in
@@ -227,7 +227,7 @@ gives_back died faults p lanes slots id v i list shards live has long hand s h s
       w,
       gives,
       tt,
-      kept_after died faults p lanes s h id v e 0 [] (set s.words j 0) homes
+      kept_after died is_bad p lanes s h id v e 0 [] (set s.words j 0) homes
           record {
             at = here;
             by = refl;
@@ -254,7 +254,7 @@ gives_back died faults p lanes slots id v i list shards live has long hand s h s
                 inr
                 (borrowed_by p lanes s.views id v x here h.borrowed k low' (sym (get_or-set_other x.outs i k 0 0 apart) ∙ out));
           },
-      ((h.log, refl, follows died faults p lanes s h id v e 0 [] here refl legal), refl),
+      ((h.log, refl, follows died is_bad p lanes s h id v e 0 [] here refl legal), refl),
     )
 
 abbrev first_of : List (ℕ × Slot) → Slot

@@ -59,10 +59,10 @@ alone v (suc i) u e = absurd (some-ne-none u (sym e))
 none_in : {P : Type 0} (k : ℕ) (a : Account) → get_elem? [] k ≡ some a → P
 none_in k a e = absurd (some-ne-none a (sym e))
 
-pub opens : (died : ℕ → ℕ → Type 0) (faults : ℕ → Type 0) (p : PlanData) (lanes : ℕ) (words : List ℕ) (slots : List Slot) (all : List LaneData)
+pub opens : (died : ℕ → ℕ → Type 0) (is_bad : ℕ → Type 0) (p : PlanData) (lanes : ℕ) (words : List ℕ) (slots : List Slot) (all : List LaneData)
     → IsPlan p → words ≡ replicate (3 * p.shards + 1) 0 ++ 2 ^ 32 ∷ replicate lanes 0 → slots ≡ map (λ (l : LaneData). Some l) all
-    → lanes ≡ length all → AreEmpty p all → Kept died faults p lanes (table_opening {S = Slot} words slots (newcomer p lanes))
-opens died faults p lanes words slots all plan are slots_are count empty =
+    → lanes ≡ length all → AreEmpty p all → Kept died is_bad p lanes (table_opening {S = Slot} words slots (newcomer p lanes))
+opens died is_bad p lanes words slots all plan are slots_are count empty =
     let n : ℕ = 3 * p.shards + 1 in
     let v : View = newcomer p lanes in
     let at : (i : ℕ) → i ≢ n → slice_index words i ≡ 0 = λ i ne.
@@ -152,16 +152,16 @@ abbrev pub AreHome : PlanData → ℕ → List (Maybe Slot) → LedgerState → 
 AreHome p lanes homes x = (k : ℕ) → k < lanes → get_elem? homes k ≡ some (some (Some (lane_data p (list_of x k))))
 
 -- the end of a ledger: its history, and what the words and the slots then have
-record IsLast (died : ℕ → ℕ → Type 0) (faults : ℕ → Type 0) (v : PassData) (words : List ℕ) (homes : List (Maybe Slot)) : Type 0 where
+record IsLast (died : ℕ → ℕ → Type 0) (is_bad : ℕ → Type 0) (v : PassData) (words : List ℕ) (homes : List (Maybe Slot)) : Type 0 where
   log : List Entry
-  end : IsEnd died faults v log
+  end : IsEnd died is_bad v log
   shows : Shows v.ledger.plan v.ledger.lanes words homes (ends_in v log)
   home : AreHome v.ledger.plan v.ledger.lanes homes (ends_in v log)
 
-ends : (died : ℕ → ℕ → Type 0) (faults : ℕ → Type 0) (p : PlanData) (lanes : ℕ) (s : State Slot View) (id : ℕ) (v : View) (z : TableId)
-    (limit : ℕ) → Kept died faults p lanes s → get_elem? s.views id ≡ some v → 0 < v.weight → v.number ≡ 0
-    → length v.joined + 1 ≡ v.made → v.lane ≡ 0 → IsLast died faults (pass_data z limit v) s.words s.homes
-ends died faults p lanes s id v z limit h at live zeroth all idle =
+ends : (died : ℕ → ℕ → Type 0) (is_bad : ℕ → Type 0) (p : PlanData) (lanes : ℕ) (s : State Slot View) (id : ℕ) (v : View) (z : TableId)
+    (limit : ℕ) → Kept died is_bad p lanes s → get_elem? s.views id ≡ some v → 0 < v.weight → v.number ≡ 0
+    → length v.joined + 1 ≡ v.made → v.lane ≡ 0 → IsLast died is_bad (pass_data z limit v) s.words s.homes
+ends died is_bad p lanes s id v z limit h at live zeroth all idle =
     let here : IsAt s.views id v = (at, live) in
     let t = h.knows id v here in
     let f = t.first zeroth in
@@ -227,25 +227,25 @@ lanes_are p (s ∷ ss) (l ∷ ls) long h =
     λ i. first i ∷ rest i
 
 -- the end of a ledger: its history, what the words have, and the lanes in the slots
-pub record IsAtEnd (died : ℕ → ℕ → Type 0) (faults : ℕ → Type 0) (v : PassData) (words : List ℕ) (slots : List Slot) : Type 0 where
+pub record IsAtEnd (died : ℕ → ℕ → Type 0) (is_bad : ℕ → Type 0) (v : PassData) (words : List ℕ) (slots : List Slot) : Type 0 where
   pub log : List Entry
-  pub end : IsEnd died faults v log
+  pub end : IsEnd died is_bad v log
   pub homes : List (Maybe Slot)
   pub shows : Shows v.ledger.plan v.ledger.lanes words homes (ends_in v log)
   pub lanes : slots ≡ map (λ (l : LaneData). Some l) (map (lane_data v.ledger.plan) (ends_in v log).lists)
 
 -- a table was closed with the seat of the first pass, once all others were joined
-pub ended : (died : ℕ → ℕ → Type 0) (faults : ℕ → Type 0) (p : PlanData) (lanes id : ℕ) (v : View) (z : TableId) (limit : ℕ) (k : PassData)
-    (words : List ℕ) (slots : List Slot) → Final (Seen (Kept died faults p lanes) id v) words slots → 0 < v.weight → pass_data z limit v ≡ k
-    → k.number ≡ 0 → length k.joined + 1 ≡ k.made → k.lane ≡ 0 → IsAtEnd died faults k words slots
-ended died faults p lanes id v z limit k words slots f live is zeroth all idle =
+pub ended : (died : ℕ → ℕ → Type 0) (is_bad : ℕ → Type 0) (p : PlanData) (lanes id : ℕ) (v : View) (z : TableId) (limit : ℕ) (k : PassData)
+    (words : List ℕ) (slots : List Slot) → Final (Seen (Kept died is_bad p lanes) id v) words slots → 0 < v.weight → pass_data z limit v ≡ k
+    → k.number ≡ 0 → length k.joined + 1 ≡ k.made → k.lane ≡ 0 → IsAtEnd died is_bad k words slots
+ended died is_bad p lanes id v z limit k words slots f live is zeroth all idle =
     let Joined : PassData → Type 0 = λ x. length x.joined + 1 ≡ x.made in
-    let e : IsLast died faults (pass_data z limit v) f.0.words f.0.homes =
-    ends died faults p lanes f.0 id v z limit f.1.0 f.1.1 live (ap (λ (x : PassData). x.number) is ∙ zeroth) (subst Joined (sym is) all)
+    let e : IsLast died is_bad (pass_data z limit v) f.0.words f.0.homes =
+    ends died is_bad p lanes f.0 id v z limit f.1.0 f.1.1 live (ap (λ (x : PassData). x.number) is ∙ zeroth) (subst Joined (sym is) all)
     (ap (λ (x : PassData). x.lane) is ∙ idle) in
     let x : LedgerState = ends_in (pass_data z limit v) e.log in
     let c = e.shows.slots.counts in
-    subst (λ (u : PassData). IsAtEnd died faults u words slots) is
+    subst (λ (u : PassData). IsAtEnd died is_bad u words slots) is
     record {
       log = e.log;
       end = e.end;

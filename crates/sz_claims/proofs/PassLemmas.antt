@@ -150,9 +150,9 @@ split_borrowed vs lanes x i v at h =
           (r.0, r.1, (at_longer all (split_right v ∷ []) r.0 r.1 r.2.0, r.2.1), r.3 ∙ t.3);
     }
 
-pub splits : (died : ℕ → ℕ → Type 0) (faults : ℕ → Type 0) (p : PlanData) (lanes id : ℕ) (v : View) → 0 < v.weight → v.number ≡ 0
-    → v.made + 1 < 2 ^ 32 → Splits {S = Slot} (Kept died faults p lanes) id v (split_left v) (split_right v)
-splits died faults p lanes id v live zeroth room s h at =
+pub splits : (died : ℕ → ℕ → Type 0) (is_bad : ℕ → Type 0) (p : PlanData) (lanes id : ℕ) (v : View) → 0 < v.weight → v.number ≡ 0
+    → v.made + 1 < 2 ^ 32 → Splits {S = Slot} (Kept died is_bad p lanes) id v (split_left v) (split_right v)
+splits died is_bad p lanes id v live zeroth room s h at =
     let here : IsAt s.views id v = (at, live) in
     let t = h.knows id v here in
     let count : v.made ≡ h.made = (t.first zeroth).0 in
@@ -320,9 +320,9 @@ join_borrowed vs lanes x i other v w at there apart home h =
           (λ (not : t.0 ≢ i). (t.0, t.1, (set_else all other t.0 spent ne ∙ set_else vs i t.0 (merged v w) not ∙ t.2.0, t.2.1), t.3));
     }
 
-pub joins : (died : ℕ → ℕ → Type 0) (faults : ℕ → Type 0) (p : PlanData) (lanes id : ℕ) (v : View) (other : ℕ) (w : View) → 0 < v.weight
-    → v.number ≡ 0 → 0 < w.weight → w.lane ≡ 0 → Joins {S = Slot} (Kept died faults p lanes) id v other w (merged v w) spent
-joins died faults p lanes id v other w live zeroth live' home s h at apart there =
+pub joins : (died : ℕ → ℕ → Type 0) (is_bad : ℕ → Type 0) (p : PlanData) (lanes id : ℕ) (v : View) (other : ℕ) (w : View) → 0 < v.weight
+    → v.number ≡ 0 → 0 < w.weight → w.lane ≡ 0 → Joins {S = Slot} (Kept died is_bad p lanes) id v other w (merged v w) spent
+joins died is_bad p lanes id v other w live zeroth live' home s h at apart there =
     let here : IsAt s.views id v = (at, live) in
     let near : IsAt s.views other w = (sym (set_else s.views id other (merged v w) apart) ∙ there, live') in
     let o = h.knows other w near in

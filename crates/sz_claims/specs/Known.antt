@@ -126,13 +126,13 @@ IsJoined v other w =
 
 -- The state after one legal history, which begins with what the pass has seen. Its reports are true. In it the calls of each pass
 -- are just those that it made, and nobody else called
-pub record IsEnd (died : ℕ → ℕ → Type 0) (faults : ℕ → Type 0) (v : PassData) (log : List Entry) : Type 0 where
+pub record IsEnd (died : ℕ → ℕ → Type 0) (is_bad : ℕ → Type 0) (v : PassData) (log : List Entry) : Type 0 where
   pub legal : IsLegal v.ledger.plan v.ledger.lanes log
   pub seen : StartsWith log v.seen
   pub mine : calls_by v.number log ≡ v.mine
   pub joined : HasJoined v.joined log
   pub others : (n : ℕ) → ¬ (n ≡ 0) → ((k : ℕ) (a : Account) → get_elem? v.joined k ≡ some a → ¬ (a.number ≡ n)) → calls_by n log ≡ []
-  pub reports : AreTrueReports died faults log
+  pub reports : AreTrueReports died is_bad log
 
 -- the shard in the word of the least bad one
 abbrev pub least_of : ℕ → Option ℕ

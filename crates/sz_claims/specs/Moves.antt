@@ -40,9 +40,9 @@ Moves v i f event reply p lanes =
     → Moved p lanes (slice_set words i (f (slice_index words i))) homes log made v.number event (reply (slice_index words i))
 
 -- a pass with this view may make the call by a step in which word i becomes f of what it was
-pub record MayCall (died : ℕ → ℕ → Type 0) (faults : ℕ → Type 0) (p : PlanData) (lanes : ℕ) (v : View) (i : ℕ) (f : ℕ → ℕ) (event : Event) (reply : ℕ
+pub record MayCall (died : ℕ → ℕ → Type 0) (is_bad : ℕ → Type 0) (p : PlanData) (lanes : ℕ) (v : View) (i : ℕ) (f : ℕ → ℕ) (event : Event) (reply : ℕ
     → Reply) : Type 0 where
   pub live : 0 < v.weight
   pub plain : IsPlain event
-  pub report : IsTrueReport died faults event
+  pub report : IsTrueReport died is_bad event
   pub moves : Moves v i f event reply p lanes

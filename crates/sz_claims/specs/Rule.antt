@@ -142,13 +142,13 @@ pub record HaveBorrowers (views : List View) (lanes : ℕ) (x : LedgerState) : T
 
 -- There is one legal history, which leads to the state that the words and slots show. Its reports are true. Each of its calls was
 -- made by one live view, or stands in the account of a joined pass
-pub record Kept (died : ℕ → ℕ → Type 0) (faults : ℕ → Type 0) (p : PlanData) (lanes : ℕ) (s : State Slot View) : Type 0 where
+pub record Kept (died : ℕ → ℕ → Type 0) (is_bad : ℕ → Type 0) (p : PlanData) (lanes : ℕ) (s : State Slot View) : Type 0 where
   pub log : List Entry
   pub made : ℕ
   pub joined : List Account
   pub plan : IsPlan p
   pub legal : IsLegal p lanes log
-  pub reports : AreTrueReports died faults log
+  pub reports : AreTrueReports died is_bad log
   pub shows : Shows p lanes s.words s.homes (state_after p (opening p lanes) log)
   pub bounded : IsBounded p s.words log made
   pub small : made < 2 ^ 32

@@ -137,7 +137,7 @@ impl<T: Load> Ledger<T> {
         requires first { pass.number ≡ 0 }
         requires all { length pass.joined + 1 ≡ pass.made }
         requires home { pass.lane ≡ 0 }
-        ensures value { (log : List Entry) × IsEnd T.died T.faults pass log × IsClosed pass.ledger.plan (ends_in pass log) result.lanes.items result.settled result.deaths result.least_bad }
+        ensures value { (log : List Entry) × IsEnd T.died T.is_bad pass log × IsClosed pass.ledger.plan (ends_in pass log) result.lanes.items result.settled result.deaths result.least_bad }
     {
         let Ledger {
             table,
@@ -250,7 +250,7 @@ impl<T: Load> Ledger<T> {
     pub fn bad(&self, pass: &mut Pass<T>, shard: u32)
         requires of { pass.old.ledger ≡ self.now }
         requires within { shard < self.now.plan.shards }
-        requires faults { T.faults shard }
+        requires bad { T.is_bad shard }
         ensures call { Calls pass.old (Event.Bad shard) Reply.Noted pass.new }
     {
         let word = 3 * self.setup.plan.shards() as usize + 1;

@@ -27,7 +27,7 @@ pub struct Law<T> {
 }
 
 impl<T: Load> TableRule<Option<Lane<T>>, View, Setup> for Law<T> {
-    ghost holds = { λ key s. Kept T.died T.faults key.plan key.lanes s };
+    ghost holds = { λ key s. Kept T.died T.is_bad key.plan key.lanes s };
 
     ghost first = { λ key. newcomer key.plan key.lanes };
 }

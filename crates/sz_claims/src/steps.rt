@@ -21,7 +21,7 @@ fn add_as<T: Load, C: Asked>(
     event: &Event,
 ) -> u64
     requires table { (seat.old.table_id ≡ shared.now.table_id) × (word < shared.now.table_id.words) }
-    requires may { MayCall T.died T.faults shared.now.key.plan shared.now.key.lanes seat.old.me.0 word (λ n. (n + 1) % 2 ^ 64) C.event C.reply }
+    requires may { MayCall T.died T.is_bad shared.now.key.plan shared.now.key.lanes seat.old.me.0 word (λ n. (n + 1) % 2 ^ 64) C.event C.reply }
     ensures same { (seat.new.table_id ≡ seat.old.table_id) × (seat.new.me.1 ≡ seat.old.me.1) }
     ensures call { Called seat.old.me.0 C.event [] (C.reply result) seat.old.me.0.lane seat.old.me.0.lent seat.new.me.0 }
 {
@@ -31,7 +31,7 @@ fn add_as<T: Load, C: Asked>(
 /// Adds 1 to a word.
 pub fn add<T: Load>(shared: &Shared<T>, seat: &mut Place<T>, word: usize, event: &Event) -> u64
     requires table { (seat.old.table_id ≡ shared.now.table_id) × (word < shared.now.table_id.words) }
-    requires may { MayCall T.died T.faults shared.now.key.plan shared.now.key.lanes seat.old.me.0 word (λ n. (n + 1) % 2 ^ 64) event.now (replies shared.now.key.plan event.now) }
+    requires may { MayCall T.died T.is_bad shared.now.key.plan shared.now.key.lanes seat.old.me.0 word (λ n. (n + 1) % 2 ^ 64) event.now (replies shared.now.key.plan event.now) }
     ensures same { (seat.new.table_id ≡ seat.old.table_id) × (seat.new.me.1 ≡ seat.old.me.1) }
     ensures call { Called seat.old.me.0 event.now [] (replies shared.now.key.plan event.now result) seat.old.me.0.lane seat.old.me.0.lent seat.new.me.0 }
 {
@@ -45,7 +45,7 @@ fn look_as<T: Load, C: Asked>(
     event: &Event,
 ) -> u64
     requires table { (seat.old.table_id ≡ shared.now.table_id) × (word < shared.now.table_id.words) }
-    requires may { MayCall T.died T.faults shared.now.key.plan shared.now.key.lanes seat.old.me.0 word (λ n. n) C.event C.reply }
+    requires may { MayCall T.died T.is_bad shared.now.key.plan shared.now.key.lanes seat.old.me.0 word (λ n. n) C.event C.reply }
     ensures same { (seat.new.table_id ≡ seat.old.table_id) × (seat.new.me.1 ≡ seat.old.me.1) }
     ensures call { Called seat.old.me.0 C.event [] (C.reply result) seat.old.me.0.lane seat.old.me.0.lent seat.new.me.0 }
 {
@@ -55,7 +55,7 @@ fn look_as<T: Load, C: Asked>(
 /// Only looks at a word.
 pub fn look<T: Load>(shared: &Shared<T>, seat: &mut Place<T>, word: usize, event: &Event) -> u64
     requires table { (seat.old.table_id ≡ shared.now.table_id) × (word < shared.now.table_id.words) }
-    requires may { MayCall T.died T.faults shared.now.key.plan shared.now.key.lanes seat.old.me.0 word (λ n. n) event.now (replies shared.now.key.plan event.now) }
+    requires may { MayCall T.died T.is_bad shared.now.key.plan shared.now.key.lanes seat.old.me.0 word (λ n. n) event.now (replies shared.now.key.plan event.now) }
     ensures same { (seat.new.table_id ≡ seat.old.table_id) × (seat.new.me.1 ≡ seat.old.me.1) }
     ensures call { Called seat.old.me.0 event.now [] (replies shared.now.key.plan event.now result) seat.old.me.0.lane seat.old.me.0.lent seat.new.me.0 }
 {
@@ -70,7 +70,7 @@ fn mark_as<T: Load, C: Asked>(
     bits: u64,
 ) -> u64
     requires table { (seat.old.table_id ≡ shared.now.table_id) × (word < shared.now.table_id.words) }
-    requires may { MayCall T.died T.faults shared.now.key.plan shared.now.key.lanes seat.old.me.0 word (λ n. bit_or n bits) C.event C.reply }
+    requires may { MayCall T.died T.is_bad shared.now.key.plan shared.now.key.lanes seat.old.me.0 word (λ n. bit_or n bits) C.event C.reply }
     ensures same { (seat.new.table_id ≡ seat.old.table_id) × (seat.new.me.1 ≡ seat.old.me.1) }
     ensures call { Called seat.old.me.0 C.event [] (C.reply result) seat.old.me.0.lane seat.old.me.0.lent seat.new.me.0 }
 {
@@ -86,7 +86,7 @@ pub fn mark<T: Load>(
     bits: u64,
 ) -> u64
     requires table { (seat.old.table_id ≡ shared.now.table_id) × (word < shared.now.table_id.words) }
-    requires may { MayCall T.died T.faults shared.now.key.plan shared.now.key.lanes seat.old.me.0 word (λ n. bit_or n bits) event.now (replies shared.now.key.plan event.now) }
+    requires may { MayCall T.died T.is_bad shared.now.key.plan shared.now.key.lanes seat.old.me.0 word (λ n. bit_or n bits) event.now (replies shared.now.key.plan event.now) }
     ensures same { (seat.new.table_id ≡ seat.old.table_id) × (seat.new.me.1 ≡ seat.old.me.1) }
     ensures call { Called seat.old.me.0 event.now [] (replies shared.now.key.plan event.now result) seat.old.me.0.lane seat.old.me.0.lent seat.new.me.0 }
 {
@@ -101,7 +101,7 @@ fn lower_as<T: Load, C: Asked>(
     most: u64,
 ) -> u64
     requires table { (seat.old.table_id ≡ shared.now.table_id) × (word < shared.now.table_id.words) }
-    requires may { MayCall T.died T.faults shared.now.key.plan shared.now.key.lanes seat.old.me.0 word (λ n. min n most) C.event C.reply }
+    requires may { MayCall T.died T.is_bad shared.now.key.plan shared.now.key.lanes seat.old.me.0 word (λ n. min n most) C.event C.reply }
     ensures same { (seat.new.table_id ≡ seat.old.table_id) × (seat.new.me.1 ≡ seat.old.me.1) }
     ensures call { Called seat.old.me.0 C.event [] (C.reply result) seat.old.me.0.lane seat.old.me.0.lent seat.new.me.0 }
 {
@@ -117,7 +117,7 @@ pub fn lower<T: Load>(
     most: u64,
 ) -> u64
     requires table { (seat.old.table_id ≡ shared.now.table_id) × (word < shared.now.table_id.words) }
-    requires may { MayCall T.died T.faults shared.now.key.plan shared.now.key.lanes seat.old.me.0 word (λ n. min n most) event.now (replies shared.now.key.plan event.now) }
+    requires may { MayCall T.died T.is_bad shared.now.key.plan shared.now.key.lanes seat.old.me.0 word (λ n. min n most) event.now (replies shared.now.key.plan event.now) }
     ensures same { (seat.new.table_id ≡ seat.old.table_id) × (seat.new.me.1 ≡ seat.old.me.1) }
     ensures call { Called seat.old.me.0 event.now [] (replies shared.now.key.plan event.now result) seat.old.me.0.lane seat.old.me.0.lent seat.new.me.0 }
 {
@@ -132,7 +132,7 @@ fn put_as<T: Load, C: Asked>(
     new: u64,
 ) -> u64
     requires table { (seat.old.table_id ≡ shared.now.table_id) × (word < shared.now.table_id.words) }
-    requires may { MayCall T.died T.faults shared.now.key.plan shared.now.key.lanes seat.old.me.0 word (λ n. either (n == 0) new n) C.event C.reply }
+    requires may { MayCall T.died T.is_bad shared.now.key.plan shared.now.key.lanes seat.old.me.0 word (λ n. either (n == 0) new n) C.event C.reply }
     ensures same { (seat.new.table_id ≡ seat.old.table_id) × (seat.new.me.1 ≡ seat.old.me.1) }
     ensures call { Called seat.old.me.0 C.event [] (C.reply result) seat.old.me.0.lane seat.old.me.0.lent seat.new.me.0 }
 {
@@ -148,7 +148,7 @@ pub fn put<T: Load>(
     new: u64,
 ) -> u64
     requires table { (seat.old.table_id ≡ shared.now.table_id) × (word < shared.now.table_id.words) }
-    requires may { MayCall T.died T.faults shared.now.key.plan shared.now.key.lanes seat.old.me.0 word (λ n. either (n == 0) new n) event.now (replies shared.now.key.plan event.now) }
+    requires may { MayCall T.died T.is_bad shared.now.key.plan shared.now.key.lanes seat.old.me.0 word (λ n. either (n == 0) new n) event.now (replies shared.now.key.plan event.now) }
     ensures same { (seat.new.table_id ≡ seat.old.table_id) × (seat.new.me.1 ≡ seat.old.me.1) }
     ensures call { Called seat.old.me.0 event.now [] (replies shared.now.key.plan event.now result) seat.old.me.0.lane seat.old.me.0.lent seat.new.me.0 }
 {

@@ -16,7 +16,7 @@ use Rattle.sz_machine.specs.Ends.{RunEnds, seen_fault}
 use Rattle.sz_machine.specs.declared.ends.Fault.{Fault as RunFault}
 use Rattle.sz_machine.specs.Acting.{Around, world_of, state_of, in_record, in_static}
 use Rattle.sz_machine.specs.declared.run_state.RunState.{RunState}
-use Rattle.sz_machine.specs.declared.run_state.Next.TheVariants.{On, To, End, Fault as NextFault}
+use Rattle.sz_machine.specs.declared.run_state.Onward.TheVariants.{On, To, End, Fault as NextFault}
 use Rattle.sz_machine.specs.LinesLeft.{line_leads, lines_left, ends_within, routines_end_within, IsOnTheWayWithin}
 use Rattle.sz_machine.proofs.LineLemmas.{leads_on, next_within, next_less, first_within, rest_within}
 use Rattle.sz_machine.proofs.CoverLemmas.{found_within, drop_found, drop_past}

@@ -12,7 +12,7 @@ use Rattle.sz_machine_rules.specs.Rows.{act}
 use Rattle.sz_machine_rules.specs.Covering.{Covers}
 use Rattle.sz_machine_rules.specs.Runs.{weight_added, charge_of, charged, does}
 use Rattle.sz_machine.specs.declared.run_state.RunState.{RunState}
-use Rattle.sz_machine.specs.declared.run_state.Next.{Next as Going}
+use Rattle.sz_machine.specs.declared.run_state.Onward.{Onward as Going}
 use Rattle.sz_machine.specs.CodeRuns.{LineDoes}
 use Rattle.sz_machine.specs.Acting.{Around, world_of, state_of, when_paid, weighs_and_acts, leads, DoesFromTo, Paid, base_charge, TakesCandidate}
 use Rattle.sz_machine.proofs.CoverLemmas.{list_there}

@@ -14,8 +14,8 @@ use Rattle.sz_machine_rules.specs.Rows.{act, pass_over}
 use Rattle.sz_machine_rules.specs.Covering.{Covers}
 use Rattle.sz_machine_rules.specs.Runs.{weight_added, candidate_charge}
 use Rattle.sz_machine.specs.declared.run_state.RunState.{RunState}
-use Rattle.sz_machine.specs.declared.run_state.Next.{Next}
-use Rattle.sz_machine.specs.declared.run_state.Next.TheVariants.{On, To, End, Fault}
+use Rattle.sz_machine.specs.declared.run_state.Onward.{Onward}
+use Rattle.sz_machine.specs.declared.run_state.Onward.TheVariants.{On, To, End, Fault}
 
 -- what a run in place has around it: the place of the next line, the statics, and the record
 pub record Around : Type 0 where
@@ -51,18 +51,18 @@ weighs_and_acts code instr place s =
     when_paid place (spend (weight_added code instr s.stack) s.world) (λ w. act code instr place (record s { world = w }))
 
 -- what a run in place leads to: it goes on after the line or at a place, it ends, or it faults
-abbrev pub leads : Next → Place → Around → RunState → After
+abbrev pub leads : Onward → Place → Around → RunState → After
 leads On place a h = Goes (state_of h (record a { at = suc a.at }))
 leads (To at) place a h = Goes (state_of h (record a { at = at }))
 leads End place a h = Halts (world_of h) a.statics
 leads (Fault kind) place a h = faults kind place
 
 -- whatever is around it, and wherever in the text, the old run in place leads by this to the new one
-abbrev pub Does : (Place → State → After) → RunState → Next → RunState → Type 0
+abbrev pub Does : (Place → State → After) → RunState → Onward → RunState → Type 0
 Does row old next new = (place : Place) (a : Around) → row place (state_of old a) ≡ leads next place a new
 
 -- the same of this place of the text
-abbrev pub DoesAt : Place → (Place → State → After) → RunState → Next → RunState → Type 0
+abbrev pub DoesAt : Place → (Place → State → After) → RunState → Onward → RunState → Type 0
 DoesAt place row old next new = (a : Around) → row place (state_of old a) ≡ leads next place a new
 
 -- the world, if ticks were taken
@@ -71,16 +71,16 @@ paid_world true w = Some w
 paid_world false w = None
 
 -- the same from these surroundings to those
-abbrev pub DoesFromTo : Place → Around → Around → (Place → State → After) → RunState → Next → RunState → Type 0
+abbrev pub DoesFromTo : Place → Around → Around → (Place → State → After) → RunState → Onward → RunState → Type 0
 DoesFromTo place a b row old next new = row place (state_of old a) ≡ leads next place b new
 
 -- the same where this holds of what is around it
-abbrev pub DoesWhere : Place → (Around → Type 0) → (Place → State → After) → RunState → Next → RunState → Type 0
+abbrev pub DoesWhere : Place → (Around → Type 0) → (Place → State → After) → RunState → Onward → RunState → Type 0
 DoesWhere place holds row old next new = (a : Around) → holds a → row place (state_of old a) ≡ leads next place a new
 
 -- whatever else was on the operands before, an undefined value that was used at a place of the text leads to a place of the code by the
 -- definition
-abbrev pub PassesTo : Option ℕ → Place → (Around → ℕ) → RunState → Next → RunState → Type 0
+abbrev pub PassesTo : Option ℕ → Place → (Around → ℕ) → RunState → Onward → RunState → Type 0
 PassesTo counting place to old next new =
     (before : List Slot) (a : Around) → pass_over counting place (record (state_of old a) { stack = before }) (to a) old.operands ≡ leads next place a new
 
@@ -90,12 +90,12 @@ pub record Paid (ticks : ℕ) (old : RunState) (paid : Bool) (new : RunState) : 
   pub kept : new ≡ record old { left = new.left }
 
 -- a run goes on after a line whose ticks were left
-abbrev pub if_paid : Bool → Next
+abbrev pub if_paid : Bool → Onward
 if_paid true = On
 if_paid false = Fault budget_passed
 
 -- a run goes so where the use of an undefined value was passed over
-abbrev pub if_passed : Bool → Next → Next
+abbrev pub if_passed : Bool → Onward → Onward
 if_passed true next = next
 if_passed false next = Fault undefined_used
 
@@ -105,7 +105,7 @@ DoesIf true row old new = Does row old On new
 DoesIf false row old new = new ≡ old
 
 -- a run goes on after a line that was done
-abbrev pub on_if : Bool → Option Next
+abbrev pub on_if : Bool → Option Onward
 on_if true = Some On
 on_if false = None
 

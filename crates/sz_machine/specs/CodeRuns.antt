@@ -8,7 +8,7 @@ use Rattle.sz_machine_rules.specs.States.{State, After, IsOver, Halts, Faults}
 use Rattle.sz_machine_rules.specs.Runs.{ComesTo, does}
 use Rattle.sz_machine.specs.declared.ends.Fault.{Fault}
 use Rattle.sz_machine.specs.declared.run_state.RunState.{RunState}
-use Rattle.sz_machine.specs.declared.run_state.Next.{Next}
+use Rattle.sz_machine.specs.declared.run_state.Onward.{Onward}
 use Rattle.sz_machine.specs.Acting.{Around, state_of, leads}
 use Rattle.sz_machine.specs.Ends.{seen_fault}
 
@@ -27,7 +27,7 @@ abbrev pub OfEnds : Code → State → (After → Type 0) → Type 0
 OfEnds code s P = (x : After) → IsOver x → ComesTo code s x → P x
 
 -- the line at the place does this
-abbrev pub LineDoes : Code → Around → Around → RunState → Next → RunState → Type 0
+abbrev pub LineDoes : Code → Around → Around → RunState → Onward → RunState → Type 0
 LineDoes code a b old next new =
     (line : Line) → slice_get code.lines a.at ≡ Some line → does code line (state_of old a) ≡ leads next line.place b new
 

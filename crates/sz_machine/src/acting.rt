@@ -8,7 +8,7 @@ ghost use Rattle.sz_machine_rules.specs.Covering.{Covers};
 ghost use Rattle.sz_machine.specs.Acting.{DoesFromTo, DoesWhere, state_of, weighs_and_acts, base_charge, TakesCandidate};
 ghost use Rattle.sz_machine.specs.Acting.{IsInside, IsApart, IsCovered, in_record, in_static};
 
-use crate::run_state::{Next, RunState, again, if_paid};
+use crate::run_state::{Onward, RunState, rebuilt, if_paid};
 use std::alloc::Global;
 use sz_instr::{Code, Instr};
 use sz_machine_cells::Cell;
@@ -18,35 +18,35 @@ use sz_value::{NoMemory, Slots};
 impl<'a> RunState<'a> {
     /// Pushes the static, which stays where it is.
     #[inline(always)]
-    pub fn push_static(&mut self, statics: &'a Slots, n: u32) -> Result<Next, NoMemory>
+    pub fn push_static(&mut self, statics: &'a Slots, n: u32) -> Result<Onward, NoMemory>
         requires within { n < length statics.now }
         ensures value { (code : Code) (place : Place) → IfOk result (λ next.
             DoesWhere place (λ a. a.statics ≡ statics.now) (act code (instr.Static n)) self.old next self.new) }
     {
         let cell = Cell::lent_slot(statics.get(n as usize));
         self.operands.push(cell)?;
-        Ok(Next::On)
+        Ok(Onward::On)
     }
 
     /// Pushes a copy of the static, as statics still change.
-    pub fn copy_static(&mut self, alloc: Global, statics: &Slots, n: u32) -> Result<Next, NoMemory>
+    pub fn copy_static(&mut self, alloc: Global, statics: &Slots, n: u32) -> Result<Onward, NoMemory>
         requires within { n < length statics.now }
         ensures value { (code : Code) (place : Place) → IfOk result (λ next.
             DoesWhere place (λ a. a.statics ≡ statics.now) (act code (instr.Static n)) self.old next self.new) }
     {
         let cell = Cell::of_slot_copy(alloc, statics.get(n as usize))?;
         self.operands.push(cell)?;
-        Ok(Next::On)
+        Ok(Onward::On)
     }
 
     /// Pushes the bytes of the record.
     #[inline(always)]
-    pub fn push_input(&mut self, input: &Cell<'a>) -> Result<Next, NoMemory>
+    pub fn push_input(&mut self, input: &Cell<'a>) -> Result<Onward, NoMemory>
         ensures value { (code : Code) (place : Place) → IfOk result (λ next.
             DoesWhere place (λ a. a.input ≡ input.now) (act code instr.Input) self.old next self.new) }
     {
         self.operands.push_copy(input)?;
-        Ok(Next::On)
+        Ok(Onward::On)
     }
 
     /// The charge of a line, of which nothing is taken where no candidate is left.
@@ -73,7 +73,7 @@ impl<'a> RunState<'a> {
         alloc: Global,
         statics: &mut Slots,
         n: u32,
-    ) -> Result<Next, NoMemory>
+    ) -> Result<Onward, NoMemory>
         requires within { n < length statics.old }
         requires some { 0 < length self.old.operands }
         ensures value { (code : Code) (place : Place) (at : ℕ) → IfOk result (λ next.
@@ -81,7 +81,7 @@ impl<'a> RunState<'a> {
     {
         let slot = self.operands.pop().into_slot(alloc)?;
         statics.set(n as usize, slot);
-        Ok(Next::On)
+        Ok(Onward::On)
     }
 
     /// What the instruction of a line at a place does, if it has to do with the operands, the locals and the calls alone. The common
@@ -94,7 +94,7 @@ impl<'a> RunState<'a> {
         at: usize,
         place: Place,
         instr: &Instr,
-    ) -> Result<Next, NoMemory>
+    ) -> Result<Onward, NoMemory>
         requires room { at < usize.MAX }
         requires inside { IsInside instr.now }
         requires covers { IsCovered code.now instr.now self.old }
@@ -107,25 +107,25 @@ impl<'a> RunState<'a> {
             Instr::Clear(n) => Ok(self.clear(*n)),
             Instr::Store(n, path) => self.store(alloc, code, place, *n, path),
             Instr::Binary(op) => Ok(if_paid(self.binary(alloc, *op)?)),
-            Instr::Tick => Ok(Next::On),
-            Instr::Jump(to) => Ok(Next::To(*to)),
-            Instr::Test(to, past) => again(self.test(alloc, code, place, *to, *past)),
+            Instr::Tick => Ok(Onward::On),
+            Instr::Jump(to) => Ok(Onward::To(*to)),
+            Instr::Test(to, past) => rebuilt(self.test(alloc, code, place, *to, *past)),
             Instr::AndTest(to) => Ok(self.and_test(*to)),
             Instr::OrTest(to) => Ok(self.or_test(*to)),
             Instr::Emit(table, indexes, weighted) => {
                 self.emit(alloc, code, place, *table, *indexes, *weighted)
             }
-            Instr::EndRecord => Ok(Next::End),
+            Instr::EndRecord => Ok(Onward::End),
             Instr::Apply(which) => Ok(if_paid(self.apply(alloc, *which)?)),
             Instr::Convert(ty) => Ok(if_paid(self.convert(alloc, code, *ty)?)),
             Instr::Slice => Ok(if_paid(self.slice(alloc)?)),
             Instr::Index => {
                 self.index(alloc)?;
-                Ok(Next::On)
+                Ok(Onward::On)
             }
             Instr::Field(n) => {
                 self.field(alloc, *n)?;
-                Ok(Next::On)
+                Ok(Onward::On)
             }
             _ => self.act_apart(alloc, code, at, place, instr),
         }
@@ -140,13 +140,13 @@ impl<'a> RunState<'a> {
         at: usize,
         place: Place,
         instr: &Instr,
-    ) -> Result<Next, NoMemory>
+    ) -> Result<Onward, NoMemory>
         requires room { at < usize.MAX }
         requires apart { IsApart instr.now }
         requires covers { IsCovered code.now instr.now self.old }
         ensures value { IfOk result (λ next. DoesWhere place (λ a. a.at ≡ at) (weighs_and_acts code.now instr.now) self.old next self.new) }
     {
-        again(self.act_seldom(alloc, code, at, place, instr))
+        rebuilt(self.act_seldom(alloc, code, at, place, instr))
     }
 
     // What one of the other instructions does.
@@ -158,7 +158,7 @@ impl<'a> RunState<'a> {
         at: usize,
         place: Place,
         instr: &Instr,
-    ) -> Result<Next, NoMemory>
+    ) -> Result<Onward, NoMemory>
         requires room { at < usize.MAX }
         requires apart { IsApart instr.now }
         requires covers { IsCovered code.now instr.now self.old }
@@ -194,7 +194,7 @@ impl<'a> RunState<'a> {
         at: usize,
         place: Place,
         instr: &Instr,
-    ) -> Result<Next, NoMemory>
+    ) -> Result<Onward, NoMemory>
         requires room { at < usize.MAX }
         requires there { IsSome input.now }
         requires covers { Covers code.now instr.now (state_of self.old (in_record at statics.now input.now)) }
@@ -218,7 +218,7 @@ impl<'a> RunState<'a> {
         at: usize,
         place: Place,
         instr: &Instr,
-    ) -> Result<Next, NoMemory>
+    ) -> Result<Onward, NoMemory>
         requires room { at < usize.MAX }
         requires covers { Covers code.now instr.now (state_of self.old (in_static at statics.old)) }
         ensures value { IfOk result (λ next. DoesFromTo place (in_static at statics.old) (in_static at statics.new)

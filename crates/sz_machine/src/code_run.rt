@@ -14,7 +14,7 @@ ghost use Rattle.sz_machine.specs.LinesLeft.{ends_within, routines_end_within};
 
 use crate::asked::{RecordRun, StaticsRun};
 use crate::ends::{Fault, RunEnd, StaticsEnd};
-use crate::run_state::{BUDGET_PASSED, Next, RunState};
+use crate::run_state::{BUDGET_PASSED, Onward, RunState};
 use std::alloc::Global;
 use std::mem;
 use sz_instr::{Code, Line, Routine};
@@ -130,7 +130,7 @@ impl<'a> RunState<'a> {
         statics: &'a Slots,
         input: &Cell<'a>,
         at: usize,
-    ) -> Result<Next, NoMemory>
+    ) -> Result<Onward, NoMemory>
         requires there { IsSome input.now }
         requires ends { Ends code.now (state_of self.old (in_record at statics.now input.now)) }
         ensures value { IfOk result (λ next.
@@ -139,7 +139,7 @@ impl<'a> RunState<'a> {
         let line = line_at(code, at);
         let charge = self.base_charge(line.charge, &line.instr);
         if !self.pay(charge) {
-            return Ok(Next::Fault(BUDGET_PASSED));
+            return Ok(Onward::Fault(BUDGET_PASSED));
         }
         if let Some(next) = self.act_quickly(code, at, &line.instr) {
             return Ok(next);
@@ -154,7 +154,7 @@ impl<'a> RunState<'a> {
         code: &'a Code,
         statics: &mut Slots,
         at: usize,
-    ) -> Result<Next, NoMemory>
+    ) -> Result<Onward, NoMemory>
         requires ends { Ends code.now (state_of self.old (in_static at statics.old)) }
         ensures value { IfOk result (λ next.
             LineDoes code.now (in_static at statics.old) (in_static at statics.new) self.old next self.new) }
@@ -162,7 +162,7 @@ impl<'a> RunState<'a> {
         let line = line_at(code, at);
         let charge = self.base_charge(line.charge, &line.instr);
         if !self.pay(charge) {
-            return Ok(Next::Fault(BUDGET_PASSED));
+            return Ok(Onward::Fault(BUDGET_PASSED));
         }
         self.act_in_static(alloc, code, statics, at, line.place, &line.instr)
     }
@@ -187,13 +187,13 @@ impl<'a> RunState<'a> {
         loop {
             let line = line_at(code, at);
             match self.step_in_record(alloc, code, statics, input, at)? {
-                Next::On => at += 1,
-                Next::To(to) => at = to,
-                Next::End => return Ok(RunEnd::Done(mem::replace(
+                Onward::On => at += 1,
+                Onward::To(to) => at = to,
+                Onward::End => return Ok(RunEnd::Done(mem::replace(
                     &mut self.emits,
                     Emits::new(alloc),
                 ))),
-                Next::Fault(kind) => return Ok(RunEnd::Fault(Fault {
+                Onward::Fault(kind) => return Ok(RunEnd::Fault(Fault {
                     kind,
                     place: line.place,
                 })),
@@ -219,10 +219,10 @@ impl<'a> RunState<'a> {
         loop {
             let line = line_at(code, at);
             match self.step_in_static(alloc, code, statics, at)? {
-                Next::On => at += 1,
-                Next::To(to) => at = to,
-                Next::End => return Ok(None),
-                Next::Fault(kind) => return Ok(Some(Fault {
+                Onward::On => at += 1,
+                Onward::To(to) => at = to,
+                Onward::End => return Ok(None),
+                Onward::Fault(kind) => return Ok(Some(Fault {
                     kind,
                     place: line.place,
                 })),

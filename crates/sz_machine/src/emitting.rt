@@ -10,10 +10,10 @@ ghost use Rattle.sz_world_rules.specs.Emits.{weight_number, weight_if_all, emit_
 ghost use Rattle.sz_machine_rules.specs.States.{popped};
 ghost use Rattle.sz_machine_rules.specs.Rows.{emit_operands};
 ghost use Rattle.sz_machine.specs.Acting.{Paid, Does, DoesAt, weighs_and_acts, if_paid};
-ghost use Rattle.sz_machine.specs.declared.run_state.Next.TheVariants.{On};
+ghost use Rattle.sz_machine.specs.declared.run_state.Onward.TheVariants.{On};
 ghost use Rattle.sz_machine.specs.Emitting.{parts_weight, emits_made, emits_parts, emits_on_top};
 
-use crate::run_state::{BUDGET_PASSED, Next, RunState, if_paid};
+use crate::run_state::{BUDGET_PASSED, Onward, RunState, if_paid};
 use std::alloc::Global;
 use sz_instr::Code;
 use sz_machine_cells::{Cell, result_weight};
@@ -33,7 +33,7 @@ impl<'a> RunState<'a> {
         table: u32,
         indexes: u32,
         weighted: bool,
-    ) -> Result<Next, NoMemory>
+    ) -> Result<Onward, NoMemory>
         requires within { emit_operands indexes weighted ≤ length self.old.operands }
         ensures value { IfOk result (λ next. DoesAt place (weighs_and_acts code.now (instr.Emit table indexes weighted)) self.old next self.new) }
     {
@@ -51,7 +51,7 @@ impl<'a> RunState<'a> {
 
     // Pops a whole number and emits it, with neither indexes nor a weight.
     #[inline(always)]
-    fn emit_top(&mut self, alloc: Global, table: u32, number: i64) -> Result<Next, NoMemory>
+    fn emit_top(&mut self, alloc: Global, table: u32, number: i64) -> Result<Onward, NoMemory>
         requires top { self.old.operands ≡ Some (int number) ∷ drop 1 self.old.operands }
         ensures value { (code : Code) → IfOk result (λ next. Does (weighs_and_acts code (instr.Emit table 0 false)) self.old next self.new) }
     {
@@ -83,12 +83,12 @@ impl<'a> RunState<'a> {
 
     // Emits a whole number, which weighs one tick.
     #[inline(always)]
-    fn emit_number(&mut self, alloc: Global, table: u32, number: i64) -> Result<Next, NoMemory>
+    fn emit_number(&mut self, alloc: Global, table: u32, number: i64) -> Result<Onward, NoMemory>
         ensures value { (counting : Option ℕ) → IfOk result (λ next.
             Does (emits_parts counting table (Some []) (Some (int number)) None) self.old next self.new) }
     {
         if !self.pay(1) {
-            return Ok(Next::Fault(BUDGET_PASSED));
+            return Ok(Onward::Fault(BUDGET_PASSED));
         }
         self.emits.push(Emit {
             table,
@@ -96,7 +96,7 @@ impl<'a> RunState<'a> {
             value: Value::Int(number),
             weight: None,
         })?;
-        Ok(Next::On)
+        Ok(Onward::On)
     }
 
     // Pops the value and the indexes of an emit with this weight.

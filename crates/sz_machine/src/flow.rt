@@ -5,9 +5,9 @@ ghost use Rattle.sz_types.specs.declared.place.Place.{Place};
 ghost use Rattle.sz_instr.specs.declared.instr.Instr.TheVariants as instr;
 ghost use Rattle.sz_machine_rules.specs.Rows.{act, call_routine};
 ghost use Rattle.sz_machine.specs.Acting.{Does, DoesAt, DoesWhere, PassesTo, if_passed};
-ghost use Rattle.sz_machine.specs.declared.run_state.Next.TheVariants.{On, To};
+ghost use Rattle.sz_machine.specs.declared.run_state.Onward.TheVariants.{On, To};
 
-use crate::run_state::{CALLS_TOO_DEEP, Next, RunState, if_passed};
+use crate::run_state::{CALLS_TOO_DEEP, Onward, RunState, if_passed};
 use std::alloc::Global;
 use sz_instr::{Code, Routine};
 use sz_machine_cells::{Candidates, Cell};
@@ -28,15 +28,15 @@ impl<'a> RunState<'a> {
         place: Place,
         to: usize,
         past: usize,
-    ) -> Result<Next, NoMemory>
+    ) -> Result<Onward, NoMemory>
         requires some { 0 < length self.old.operands }
         ensures value { IfOk result (λ next. DoesAt place (act code.now (instr.Test to past)) self.old next self.new) }
     {
         let x = self.operands.pop();
         match x.truth() {
-            Some(true) => Ok(Next::On),
-            _ if x.is_defined() => Ok(Next::To(to)),
-            _ => Ok(if_passed(self.pass(alloc, code, place)?, Next::To(past))),
+            Some(true) => Ok(Onward::On),
+            _ if x.is_defined() => Ok(Onward::To(to)),
+            _ => Ok(if_passed(self.pass(alloc, code, place)?, Onward::To(past))),
         }
     }
 
@@ -58,78 +58,78 @@ impl<'a> RunState<'a> {
 
     /// Goes to the place if the slot on top isn't true, and leaves it; else pops it.
     #[inline(always)]
-    pub fn and_test(&mut self, to: usize) -> Next
+    pub fn and_test(&mut self, to: usize) -> Onward
         requires some { 0 < length self.old.operands }
         ensures value { (code : Code) → Does (act code (instr.AndTest to)) self.old result self.new }
     {
         match self.operands.top().truth() {
             Some(true) => {
                 self.operands.pop();
-                Next::On
+                Onward::On
             }
-            _ => Next::To(to),
+            _ => Onward::To(to),
         }
     }
 
     /// Goes to the place if the slot on top isn't false, and leaves it; else pops it.
     #[inline(always)]
-    pub fn or_test(&mut self, to: usize) -> Next
+    pub fn or_test(&mut self, to: usize) -> Onward
         requires some { 0 < length self.old.operands }
         ensures value { (code : Code) → Does (act code (instr.OrTest to)) self.old result self.new }
     {
         match self.operands.top().truth() {
             Some(false) => {
                 self.operands.pop();
-                Next::On
+                Onward::On
             }
-            _ => Next::To(to),
+            _ => Onward::To(to),
         }
     }
 
     /// Pops a slot, and goes to the place unless it is true.
     #[inline(never)]
-    pub fn meets(&mut self, to: usize) -> Next
+    pub fn meets(&mut self, to: usize) -> Onward
         requires some { 0 < length self.old.operands }
         ensures value { (code : Code) → Does (act code (instr.Meets to)) self.old result self.new }
     {
         let x = self.operands.pop();
         match x.truth() {
-            Some(true) => Next::On,
-            _ => Next::To(to),
+            Some(true) => Onward::On,
+            _ => Onward::To(to),
         }
     }
 
     /// Pops a slot, and goes to the place if it is false.
     #[inline(never)]
-    pub fn fails(&mut self, to: usize) -> Next
+    pub fn fails(&mut self, to: usize) -> Onward
         requires some { 0 < length self.old.operands }
         ensures value { (code : Code) → Does (act code (instr.Fails to)) self.old result self.new }
     {
         let x = self.operands.pop();
         match x.truth() {
-            Some(false) => Next::To(to),
-            _ => Next::On,
+            Some(false) => Onward::To(to),
+            _ => Onward::On,
         }
     }
 
     /// Pops a slot, which is to be defined: an undefined one is a fault, unless its line is counted.
     #[inline(never)]
-    pub fn discard(&mut self, alloc: Global, code: &Code, place: Place) -> Result<Next, NoMemory>
+    pub fn discard(&mut self, alloc: Global, code: &Code, place: Place) -> Result<Onward, NoMemory>
         requires some { 0 < length self.old.operands }
         ensures value { IfOk result (λ next. DoesAt place (act code.now instr.Discard) self.old next self.new) }
     {
         let x = self.operands.pop();
         if x.is_defined() {
-            Ok(Next::On)
+            Ok(Onward::On)
         } else {
-            Ok(if_passed(self.pass(alloc, code, place)?, Next::On))
+            Ok(if_passed(self.pass(alloc, code, place)?, Onward::On))
         }
     }
 
     /// Enters the routine with its arguments, from the line at a place. Where one of them is undefined, so is the result, and nothing is
     /// called; where 128 calls are open, it is a fault.
     #[inline(never)]
-    pub fn call(&mut self, routine: &Routine, at: usize) -> Result<Next, NoMemory>
+    pub fn call(&mut self, routine: &Routine, at: usize) -> Result<Onward, NoMemory>
         requires within { routine.now.params ≤ length self.old.operands }
         requires room { at < usize.MAX }
         ensures value { IfOk result (λ next. (place : Place) →
@@ -139,59 +139,59 @@ impl<'a> RunState<'a> {
         if !self.operands.are_defined(count) {
             self.operands.drop_top(count);
             self.operands.push(Cell::undefined())?;
-            return Ok(Next::On);
+            return Ok(Onward::On);
         }
         if self.calls.open() >= MOST_OPEN_CALLS {
-            return Ok(Next::Fault(CALLS_TOO_DEEP));
+            return Ok(Onward::Fault(CALLS_TOO_DEEP));
         }
         self.calls
             .enter(&mut self.operands, routine.params, routine.locals, at + 1)?;
-        Ok(Next::To(routine.entry))
+        Ok(Onward::To(routine.entry))
     }
 
     /// Leaves the routine, with the slot on top for the one that called it.
     #[inline(never)]
-    pub fn give_back(&mut self) -> Next
+    pub fn give_back(&mut self) -> Onward
         requires some { 0 < length self.old.operands }
         requires called { 0 < length self.old.calls.callers }
         ensures value { (code : Code) → Does (act code instr.Return) self.old result self.new }
     {
-        Next::To(self.calls.leave())
+        Onward::To(self.calls.leave())
     }
 
     /// Pops a base and adds the list of its candidates.
     #[inline(never)]
-    pub fn enter_search(&mut self, slice: bool) -> Result<Next, NoMemory>
+    pub fn enter_search(&mut self, slice: bool) -> Result<Onward, NoMemory>
         requires some { 0 < length self.old.operands }
         ensures value { (code : Code) → IfOk result (λ next. Does (act code (instr.Enter slice)) self.old next self.new) }
     {
         let base = self.operands.pop();
         let list = Candidates::of(slice, &base)?;
         self.calls.add_list(list)?;
-        Ok(Next::On)
+        Ok(Onward::On)
     }
 
     /// Takes the next candidate into the local; if none is left, drops the list and goes to the place.
     #[inline(never)]
-    pub fn next_candidate(&mut self, alloc: Global, n: u32, to: usize) -> Result<Next, NoMemory>
+    pub fn next_candidate(&mut self, alloc: Global, n: u32, to: usize) -> Result<Onward, NoMemory>
         requires within { n < length self.old.calls.locals }
         requires some { 0 < length self.old.calls.lists }
         ensures value { (code : Code) → IfOk result (λ next. Does (act code (instr.Next n to)) self.old next self.new) }
     {
         if self.calls.next(alloc, n)? {
-            Ok(Next::On)
+            Ok(Onward::On)
         } else {
-            Ok(Next::To(to))
+            Ok(Onward::To(to))
         }
     }
 
     /// Drops the innermost candidate list.
     #[inline(never)]
-    pub fn leave_search(&mut self) -> Next
+    pub fn leave_search(&mut self) -> Onward
         requires some { 0 < length self.old.calls.lists }
         ensures value { (code : Code) → Does (act code instr.Leave) self.old result self.new }
     {
         self.calls.drop_list();
-        Next::On
+        Onward::On
     }
 }

@@ -7,7 +7,7 @@ ghost use Rattle.sz_instr.specs.declared.instr.Instr.TheVariants as instr;
 ghost use Rattle.sz_machine_rules.specs.Rows.{act, indexes_in, store};
 ghost use Rattle.sz_machine.specs.Acting.{DoesIf, DoesWhere, IsCovered, on_if, weighs_and_acts};
 
-use crate::run_state::{Next, RunState};
+use crate::run_state::{Onward, RunState};
 use sz_instr::{Code, Instr, Steps};
 use sz_machine_cells::of_ints;
 use sz_types::BinOp;
@@ -16,7 +16,7 @@ use sz_value::Value;
 impl<'a> RunState<'a> {
     /// What the instruction of a line at a place does, if it is one of these and finds such operands. Else nothing is done.
     #[inline(always)]
-    pub fn act_quickly(&mut self, code: &'a Code, at: usize, instr: &Instr) -> Option<Next>
+    pub fn act_quickly(&mut self, code: &'a Code, at: usize, instr: &Instr) -> Option<Onward>
         requires room { at < usize.MAX }
         requires covers { IsCovered code.now instr.now self.old }
         ensures done { IfSome result (λ next. (place : Place) →
@@ -30,8 +30,8 @@ impl<'a> RunState<'a> {
             Instr::Keep(n) => on_if(self.keep_int(*n)),
             Instr::Store(n, path) => on_if(self.store_int(*n, path)),
             Instr::Test(to, _) => self.test_truth(at, *to),
-            Instr::Jump(to) => Some(Next::To(*to)),
-            Instr::Tick => Some(Next::On),
+            Instr::Jump(to) => Some(Onward::To(*to)),
+            Instr::Tick => Some(Onward::On),
             Instr::Apply(which) => on_if(self.apply_to_octets(*which)),
             Instr::Convert(ty) => on_if(self.read_number(code, *ty)),
             Instr::Slice => on_if(self.cut()),
@@ -114,7 +114,7 @@ impl<'a> RunState<'a> {
 
     // Pops a truth value, and goes on after the line at the place `at` if it is true, and to the place `to` if it is false.
     #[inline(always)]
-    fn test_truth(&mut self, at: usize, to: usize) -> Option<Next>
+    fn test_truth(&mut self, at: usize, to: usize) -> Option<Onward>
         requires room { at < usize.MAX }
         requires some { 0 < length self.old.operands }
         ensures done { IfSome result (λ next. (code : Code) (past : ℕ) (place : Place) →
@@ -123,14 +123,14 @@ impl<'a> RunState<'a> {
     {
         let truth = self.operands.top().bool()?;
         self.operands.drop_one();
-        Some(Next::To(if truth { at + 1 } else { to }))
+        Some(Onward::To(if truth { at + 1 } else { to }))
     }
 }
 
 // A run goes on after a line that was done.
 #[inline(always)]
-fn on_if(done: bool) -> Option<Next>
+fn on_if(done: bool) -> Option<Onward>
     ensures value { result ≡ on_if done }
 {
-    if done { Some(Next::On) } else { None }
+    if done { Some(Onward::On) } else { None }
 }

@@ -9,9 +9,9 @@ ghost use Rattle.sz_world_rules.specs.Operations.{array_of, tuple_of};
 ghost use Rattle.sz_world_rules.specs.Ticks.{result_weight};
 ghost use Rattle.sz_machine_rules.specs.States.{popped};
 ghost use Rattle.sz_machine.specs.Acting.{Paid, Does, weighs_and_acts, if_paid};
-ghost use Rattle.sz_machine.specs.declared.run_state.Next.TheVariants.{On};
+ghost use Rattle.sz_machine.specs.declared.run_state.Onward.TheVariants.{On};
 
-use crate::run_state::{BUDGET_PASSED, Next, RunState, if_paid};
+use crate::run_state::{BUDGET_PASSED, Onward, RunState, if_paid};
 use std::alloc::Global;
 use sz_instr::Code;
 use sz_machine_cells::{
@@ -25,34 +25,34 @@ use sz_value::NoMemory;
 impl<'a> RunState<'a> {
     /// Pushes the constant, which stays where it is.
     #[inline(always)]
-    pub fn push(&mut self, code: &'a Code, constant: u32) -> Result<Next, NoMemory>
+    pub fn push(&mut self, code: &'a Code, constant: u32) -> Result<Onward, NoMemory>
         requires within { constant < length code.now.constants }
         ensures value { IfOk result (λ next. Does (act code.now (instr.Push constant)) self.old next self.new) }
     {
         self.operands
             .push_lent(code.constants.get(constant as usize))?;
-        Ok(Next::On)
+        Ok(Onward::On)
     }
 
     /// Pushes a copy of the local.
     #[inline(always)]
-    pub fn push_local(&mut self, n: u32) -> Result<Next, NoMemory>
+    pub fn push_local(&mut self, n: u32) -> Result<Onward, NoMemory>
         requires within { n < length self.old.calls.locals }
         ensures value { (code : Code) → IfOk result (λ next. Does (act code (instr.Local n)) self.old next self.new) }
     {
         self.operands.push_copy(self.calls.local(n))?;
-        Ok(Next::On)
+        Ok(Onward::On)
     }
 
     /// Pops a slot into the local.
     #[inline(always)]
-    pub fn keep(&mut self, alloc: Global, n: u32) -> Result<Next, NoMemory>
+    pub fn keep(&mut self, alloc: Global, n: u32) -> Result<Onward, NoMemory>
         requires within { n < length self.old.calls.locals }
         requires some { 0 < length self.old.operands }
         ensures value { (code : Code) → IfOk result (λ next. Does (act code (instr.Keep n)) self.old next self.new) }
     {
         self.keep_cell(alloc, n)?;
-        Ok(Next::On)
+        Ok(Onward::On)
     }
 
     // The same, out of line.
@@ -69,24 +69,24 @@ impl<'a> RunState<'a> {
 
     /// Makes the local undefined.
     #[inline(always)]
-    pub fn clear(&mut self, n: u32) -> Next
+    pub fn clear(&mut self, n: u32) -> Onward
         requires within { n < length self.old.calls.locals }
         ensures value { (code : Code) → Does (act code (instr.Clear n)) self.old result self.new }
     {
         self.calls.keep(n, Cell::undefined());
-        Next::On
+        Onward::On
     }
 
     /// Pops an operand and pushes what the operator makes of it.
     #[inline(never)]
-    pub fn unary(&mut self, alloc: Global, op: UnOp) -> Result<Next, NoMemory>
+    pub fn unary(&mut self, alloc: Global, op: UnOp) -> Result<Onward, NoMemory>
         requires some { 0 < length self.old.operands }
         ensures value { (code : Code) → IfOk result (λ next. Does (act code (instr.Unary op)) self.old next self.new) }
     {
         let x = self.operands.pop();
         let made = unary_of(alloc, op, &x)?;
         self.operands.push(made)?;
-        Ok(Next::On)
+        Ok(Onward::On)
     }
 
     /// Pops two operands and pushes what the operator makes of them. Whether the ticks for that were left.
@@ -155,7 +155,7 @@ impl<'a> RunState<'a> {
 
     /// Pops bytes and pushes the message that they are by the type.
     #[inline(never)]
-    pub fn decode(&mut self, alloc: Global, code: &Code, ty: u32) -> Result<Next, NoMemory>
+    pub fn decode(&mut self, alloc: Global, code: &Code, ty: u32) -> Result<Onward, NoMemory>
         requires within { ty < length code.now.types }
         requires some { 0 < length self.old.operands }
         ensures value { IfOk result (λ next. Does (weighs_and_acts code.now (instr.Decode ty)) self.old next self.new) }
@@ -184,39 +184,39 @@ impl<'a> RunState<'a> {
     /// Pops the elements and pushes the array of them.
     #[inline(never)]
     #[tactic(auto, using(crate::proofs::PayLemmas::row_unpaid, crate::proofs::PayLemmas::row_paid))]
-    pub fn make_array(&mut self, alloc: Global, count: u32) -> Result<Next, NoMemory>
+    pub fn make_array(&mut self, alloc: Global, count: u32) -> Result<Onward, NoMemory>
         requires within { count ≤ length self.old.operands }
         ensures value { (code : Code) → IfOk result (λ next. Does (weighs_and_acts code (instr.MakeArray count)) self.old next self.new) }
     {
         if !self.pay_composite(count as usize) {
-            return Ok(Next::Fault(BUDGET_PASSED));
+            return Ok(Onward::Fault(BUDGET_PASSED));
         }
         let elements = self.operands.pop_values(alloc, count as usize)?;
         let made = array_of(alloc, elements)?;
         self.operands.push(made)?;
-        Ok(Next::On)
+        Ok(Onward::On)
     }
 
     /// Pops the parts and pushes the tuple of them.
     #[inline(never)]
     #[tactic(auto, using(crate::proofs::PayLemmas::row_unpaid, crate::proofs::PayLemmas::row_paid))]
-    pub fn make_tuple(&mut self, alloc: Global, count: u32) -> Result<Next, NoMemory>
+    pub fn make_tuple(&mut self, alloc: Global, count: u32) -> Result<Onward, NoMemory>
         requires within { count ≤ length self.old.operands }
         ensures value { (code : Code) → IfOk result (λ next. Does (weighs_and_acts code (instr.MakeTuple count)) self.old next self.new) }
     {
         if !self.pay_composite(count as usize) {
-            return Ok(Next::Fault(BUDGET_PASSED));
+            return Ok(Onward::Fault(BUDGET_PASSED));
         }
         let parts = self.operands.pop_values(alloc, count as usize)?;
         let made = tuple_of(alloc, parts)?;
         self.operands.push(made)?;
-        Ok(Next::On)
+        Ok(Onward::On)
     }
 
     /// Pops the keys and values and pushes the map of them. They are weighed where they are, so that nothing is copied that isn't paid.
     #[inline(never)]
     #[tactic(auto, using(crate::proofs::PayLemmas::row_unpaid, crate::proofs::PayLemmas::not_there))]
-    pub fn make_map(&mut self, alloc: Global, count: u32) -> Result<Next, NoMemory>
+    pub fn make_map(&mut self, alloc: Global, count: u32) -> Result<Onward, NoMemory>
         requires within { 2 * count ≤ length self.old.operands }
         ensures value { (code : Code) → IfOk result (λ next. Does (weighs_and_acts code (instr.MakeMap count)) self.old next self.new) }
     {
@@ -227,7 +227,7 @@ impl<'a> RunState<'a> {
                 self.operands.drop_top(parts);
                 Ok(if_paid(self.finish(made, weight)?))
             }
-            None => Ok(Next::Fault(BUDGET_PASSED)),
+            None => Ok(Onward::Fault(BUDGET_PASSED)),
         }
     }
 
@@ -299,12 +299,12 @@ impl<'a> RunState<'a> {
 
     /// Pops a slot and pushes whether it was defined.
     #[inline(never)]
-    pub fn def(&mut self) -> Result<Next, NoMemory>
+    pub fn def(&mut self) -> Result<Onward, NoMemory>
         requires some { 0 < length self.old.operands }
         ensures value { (code : Code) → IfOk result (λ next. Does (act code instr.Def) self.old next self.new) }
     {
         let x = self.operands.pop();
         self.operands.push(definedness(&x))?;
-        Ok(Next::On)
+        Ok(Onward::On)
     }
 }

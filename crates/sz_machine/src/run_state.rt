@@ -27,7 +27,7 @@ impl<'a> Drop for RunState<'a> {
 
 /// Where a run goes: on after the line, to a place, to its end, or to a fault of this kind.
 #[derive(Clone, Copy)]
-pub enum Next {
+pub enum Onward {
     On,
     To(usize),
     End,
@@ -71,38 +71,38 @@ impl<'a> RunState<'a> {
 
 /// Where a run goes after a line whose ticks were left, or weren't. What stands out of line tells just that, which takes no place in memory.
 #[inline(always)]
-pub fn if_paid(paid: bool) -> Next
+pub fn if_paid(paid: bool) -> Onward
     ensures value { result ≡ if_paid paid }
 {
     if paid {
-        Next::On
+        Onward::On
     } else {
-        Next::Fault(BUDGET_PASSED)
+        Onward::Fault(BUDGET_PASSED)
     }
 }
 
 /// Where a run goes where an undefined value was used: so, if that was passed over.
 #[inline(always)]
-pub fn if_passed(passed: bool, next: Next) -> Next
+pub fn if_passed(passed: bool, next: Onward) -> Onward
     ensures value { result ≡ if_passed passed next }
 {
     if passed {
         next
     } else {
-        Next::Fault(UNDEFINED_USED)
+        Onward::Fault(UNDEFINED_USED)
     }
 }
 
 /// The answer of a row that stands out of line, taken apart and made anew: so the loop's own answer never has a place in memory.
 #[inline(always)]
-pub fn again(answer: Result<Next, NoMemory>) -> Result<Next, NoMemory>
+pub fn rebuilt(answer: Result<Onward, NoMemory>) -> Result<Onward, NoMemory>
     ensures value { result ≡ answer }
 {
     match answer {
-        Ok(Next::On) => Ok(Next::On),
-        Ok(Next::To(to)) => Ok(Next::To(to)),
-        Ok(Next::End) => Ok(Next::End),
-        Ok(Next::Fault(kind)) => Ok(Next::Fault(kind)),
+        Ok(Onward::On) => Ok(Onward::On),
+        Ok(Onward::To(to)) => Ok(Onward::To(to)),
+        Ok(Onward::End) => Ok(Onward::End),
+        Ok(Onward::Fault(kind)) => Ok(Onward::Fault(kind)),
         Err(error) => Err(error),
     }
 }

@@ -3,10 +3,10 @@ ghost use Rattle.std.specs.Prelude.{ℕ, ◌+◌, ◌<◌, ◌≤◌, [], length
 ghost use Rattle.sz_value.specs.Seen.{seen};
 ghost use Rattle.sz_machine_rules.specs.Rows.{indexes_in, store};
 ghost use Rattle.sz_machine.specs.Acting.{Does, DoesAt, if_passed};
-ghost use Rattle.sz_machine.specs.declared.run_state.Next.TheVariants.{On};
+ghost use Rattle.sz_machine.specs.declared.run_state.Onward.TheVariants.{On};
 ghost use Rattle.sz_machine.specs.Storing.{stores_values};
 
-use crate::run_state::{Next, RunState, STORE_OUTSIDE, again, if_passed};
+use crate::run_state::{Onward, RunState, STORE_OUTSIDE, rebuilt, if_passed};
 use std::alloc::Global;
 use sz_instr::{Code, Step, Steps};
 use sz_machine_cells::{indexes_in, stored_in};
@@ -23,7 +23,7 @@ impl<'a> RunState<'a> {
         place: Place,
         n: u32,
         path: &Steps,
-    ) -> Result<Next, NoMemory>
+    ) -> Result<Onward, NoMemory>
         requires within { n < length self.old.calls.locals }
         requires some { indexes_in path.now + 1 ≤ length self.old.operands }
         ensures value { IfOk result (λ next.
@@ -43,12 +43,12 @@ impl<'a> RunState<'a> {
         code: &Code,
         place: Place,
         n: u32,
-    ) -> Result<Next, NoMemory>
+    ) -> Result<Onward, NoMemory>
         requires within { n < length self.old.calls.locals }
         requires some { 0 < length self.old.operands }
         ensures value { IfOk result (λ next. DoesAt place (λ place s. store code.now.ignore [] 0 place n s) self.old next self.new) }
     {
-        Ok(if_passed(self.store_cell(alloc, code, place, n)?, Next::On))
+        Ok(if_passed(self.store_cell(alloc, code, place, n)?, Onward::On))
     }
 
     // The same, out of line. An undefined value is a fault, and the answer false, but where lines are counted.
@@ -82,13 +82,13 @@ impl<'a> RunState<'a> {
         place: Place,
         n: u32,
         path: &[Step],
-    ) -> Result<Next, NoMemory>
+    ) -> Result<Onward, NoMemory>
         requires within { n < length self.old.calls.locals }
         requires some { indexes_in path.now + 1 ≤ length self.old.operands }
         ensures value { IfOk result (λ next.
             DoesAt place (λ place s. store code.now.ignore path.now (indexes_in path.now) place n s) self.old next self.new) }
     {
-        again(self.store_part(alloc, code, place, n, path))
+        rebuilt(self.store_part(alloc, code, place, n, path))
     }
 
     // Pops a value and the indexes of the steps, and puts the value where they lead in the local.
@@ -100,7 +100,7 @@ impl<'a> RunState<'a> {
         place: Place,
         n: u32,
         path: &[Step],
-    ) -> Result<Next, NoMemory>
+    ) -> Result<Onward, NoMemory>
         requires within { n < length self.old.calls.locals }
         requires some { indexes_in path.now + 1 ≤ length self.old.operands }
         ensures value { IfOk result (λ next.
@@ -109,10 +109,10 @@ impl<'a> RunState<'a> {
         let new = self.operands.pop();
         let indexes = self.operands.pop_values(alloc, indexes_in(path))?;
         let Some(indexes) = indexes else {
-            return Ok(if_passed(self.pass(alloc, code, place)?, Next::On));
+            return Ok(if_passed(self.pass(alloc, code, place)?, Onward::On));
         };
         let Some(new) = new.into_value(alloc)? else {
-            return Ok(if_passed(self.pass(alloc, code, place)?, Next::On));
+            return Ok(if_passed(self.pass(alloc, code, place)?, Onward::On));
         };
         self.calls.set_apart(alloc, n)?;
         self.store_at(alloc, n, path, &indexes, new)
@@ -126,7 +126,7 @@ impl<'a> RunState<'a> {
         steps: &[Step],
         indexes: &List,
         new: Value,
-    ) -> Result<Next, NoMemory>
+    ) -> Result<Onward, NoMemory>
         requires within { n < length self.old.calls.locals }
         ensures value { (counting : Option ℕ) → IfOk result (λ next.
             Does (stores_values counting steps.now indexes.now (seen new) n) self.old next self.new) }
@@ -135,9 +135,9 @@ impl<'a> RunState<'a> {
         match stored_in(alloc, steps, indexes.as_slice(), new, old)? {
             Some(cell) => {
                 self.calls.keep(n, cell);
-                Ok(Next::On)
+                Ok(Onward::On)
             }
-            None => Ok(Next::Fault(STORE_OUTSIDE)),
+            None => Ok(Onward::Fault(STORE_OUTSIDE)),
         }
     }
 }

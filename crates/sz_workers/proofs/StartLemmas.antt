@@ -51,8 +51,8 @@ is_back ledger v w pocket goes keeps none of =
 pub in_place : (v : PassData) → IsPlan v.ledger.plan → IsLegal v.ledger.plan v.ledger.lanes v.seen → calls_by v.number v.seen ≡ v.mine → IsInPlace v
 in_place v plan legal own = record { plan = plan; legal = legal; own = own }
 
-pub not_begun : (died : ℕ → ℕ → Type 0) (faults : ℕ → Type 0) (p : PlanData) (v : PassData) → HasBegun died faults p v v
-not_begun died faults p v = (between_self died faults p v).begun
+pub not_begun : (died : ℕ → ℕ → Type 0) (is_bad : ℕ → Type 0) (p : PlanData) (v : PassData) → HasBegun died is_bad p v v
+not_begun died is_bad p v = (between_self died is_bad p v).begun
 
 -- what is true of each error
 pub err_any : {A E : Type 0} (r : Result A E) (P : Type 0) → P → IfErr r (λ (e : E). P)

@@ -49,7 +49,7 @@ pub struct RoundPart<'a, N: RoundName> {
 impl<'a, N: RoundName> Load for RoundPart<'a, N> {
     ghost died = { λ s k. Dies N.job (shards_of N.round) s k };
 
-    ghost faults = { λ s. Bad N.job (shards_of N.round) s };
+    ghost is_bad = { λ s. Bad N.job (shards_of N.round) s };
 
     ghost plan = { λ part. plan_for N.job N.round };
 

@@ -32,8 +32,8 @@ none_drawn zero t = refl
 none_drawn (suc n) zero = refl
 none_drawn (suc n) (suc t) = none_drawn n t
 
-module _ (died : ℕ → ℕ → Type 0) (faults : ℕ → Type 0) where
-  truth_then : (es ds : List Entry) → AllTellTruth died faults es → AllTellTruth died faults ds → AllTellTruth died faults (es ++ ds)
+module _ (died : ℕ → ℕ → Type 0) (is_bad : ℕ → Type 0) where
+  truth_then : (es ds : List Entry) → AllTellTruth died is_bad es → AllTellTruth died is_bad ds → AllTellTruth died is_bad (es ++ ds)
   truth_then [] ds a b = b
   truth_then (e ∷ es) ds a b = (a.0, truth_then es ds a.1 b)
 
@@ -41,9 +41,9 @@ module _ (died : ℕ → ℕ → Type 0) (faults : ℕ → Type 0) where
 stays_there : (old : List Phase) (t : ℕ) (q : Phase) → phase_of old t ≡ q → slice_set old t q ≡ old
 stays_there old t q is = ap (λ (r : Phase). slice_set old t r) (sym is) ∙ set-get_or old t undrawn
 
-module _ (died : ℕ → ℕ → Type 0) (faults : ℕ → Type 0) (p : PlanData) where
+module _ (died : ℕ → ℕ → Type 0) (is_bad : ℕ → Type 0) (p : PlanData) where
   -- no call leaves a ticket where it is
-  pub leads_self : (v : PassData) (t : ℕ) (q : Phase) → IsInPlace v → Leads died faults p v v t q q
+  pub leads_self : (v : PassData) (t : ℕ) (q : Phase) → IsInPlace v → Leads died is_bad p v v t q q
   leads_self v t q place = record {
     goes = goes_self v;
     place = place;
@@ -54,14 +54,14 @@ module _ (died : ℕ → ℕ → Type 0) (faults : ℕ → Type 0) (p : PlanData
   }
 
   -- further calls on the same ticket
-  leads_then : (u v w : PassData) (t : ℕ) (a b c : Phase) → Leads died faults p u v t a b → Leads died faults p v w t b c
-      → Leads died faults p u w t a c
+  leads_then : (u v w : PassData) (t : ℕ) (a b c : Phase) → Leads died is_bad p u v t a b → Leads died is_bad p v w t b c
+      → Leads died is_bad p u w t a c
   leads_then u v w t a b c g h = record {
     goes = goes_then u v w g.goes h.goes;
     place = h.place;
     further = g.further ++ h.further;
     later = h.later ∙ ap (λ (l : List Entry). l ++ h.further) g.later ∙ append_assoc u.mine g.further h.further;
-    truth = truth_then died faults g.further h.further g.truth h.truth;
+    truth = truth_then died is_bad g.further h.further g.truth h.truth;
     advances = λ old low is.
         let mid : List Phase = slice_set old t b in
         let rest = h.advances mid (subst (λ (n : ℕ). t < n) (sym (length-set old t b)) low) (get_or-set_same old t b undrawn low) in
@@ -70,8 +70,8 @@ module _ (died : ℕ → ℕ → Type 0) (faults : ℕ → Type 0) (p : PlanData
   }
 
   -- one call on a ticket
-  leads_call : (v w : PassData) (e : Event) (r : Reply) (t : ℕ) (from to : Phase) → Calls v e r w → IsInPlace v → TellsTruth died faults e
-      → ((old : List Phase) → phase_of old t ≡ from → Turns p old e r (slice_set old t to)) → Leads died faults p v w t from to
+  leads_call : (v w : PassData) (e : Event) (r : Reply) (t : ℕ) (from to : Phase) → Calls v e r w → IsInPlace v → TellsTruth died is_bad e
+      → ((old : List Phase) → phase_of old t ≡ from → Turns p old e r (slice_set old t to)) → Leads died is_bad p v w t from to
   leads_call v w e r t from to h place truth advance = record {
     goes = goes_call v w e r h;
     place = in_place_call v w e r h place;
@@ -81,35 +81,35 @@ module _ (died : ℕ → ℕ → Type 0) (faults : ℕ → Type 0) (p : PlanData
     advances = λ old low is. (slice_set old t to, advance old is, refl);
   }
 
-  leads_drawn : (v w : PassData) (c : Claim) → Calls v Draw (Ticket (Some c)) w → IsInPlace v → Leads died faults p v w c.ticket undrawn asks
+  leads_drawn : (v w : PassData) (c : Claim) → Calls v Draw (Ticket (Some c)) w → IsInPlace v → Leads died is_bad p v w c.ticket undrawn asks
   leads_drawn v w c h place = leads_call v w Draw (Ticket (Some c)) c.ticket undrawn asks h place tt (λ old is. (is, refl))
 
   leads_number : (v w : PassData) (c : Claim) (k : ℕ) → Calls v (Number c) (Numbered (Some k)) w → IsInPlace v
-      → Leads died faults p v w c.ticket asks (tries k)
+      → Leads died is_bad p v w c.ticket asks (tries k)
   leads_number v w c k h place = leads_call v w (Number c) (Numbered (Some k)) c.ticket asks (tries k) h place tt (λ old is. (is, refl))
 
   leads_no_number : (v w : PassData) (c : Claim) → Calls v (Number c) (Numbered None) w → IsInPlace v
-      → Leads died faults p v w c.ticket asks ended
+      → Leads died is_bad p v w c.ticket asks ended
   leads_no_number v w c h place = leads_call v w (Number c) (Numbered None) c.ticket asks ended h place tt (λ old is. (is, refl))
 
-  pub leads_won : (v w : PassData) (c : Claim) (k : ℕ) → Calls v (Settle c k) Won w → IsInPlace v → GivesEmits died faults c.shard k
-      → Leads died faults p v w c.ticket (tries k) ended
+  pub leads_won : (v w : PassData) (c : Claim) (k : ℕ) → Calls v (Settle c k) Won w → IsInPlace v → GivesEmits died is_bad c.shard k
+      → Leads died is_bad p v w c.ticket (tries k) ended
   leads_won v w c k h place truth = leads_call v w (Settle c k) Won c.ticket (tries k) ended h place truth (λ old is. (is, refl))
 
   pub leads_bad : (v w : PassData) (c : Claim) (k : ℕ) → Calls v (Bad c.shard) Noted w → IsInPlace v → v.ledger.plan ≡ p → HasDrawn c v.mine
-      → faults c.shard → Leads died faults p v w c.ticket (tries k) ended
+      → is_bad c.shard → Leads died is_bad p v w c.ticket (tries k) ended
   leads_bad v w c k h place of drew truth =
       let claim = is_claim p v c of place drew in
       leads_call v w (Bad c.shard) Noted c.ticket (tries k) ended h place truth
       (λ old is. record { ticket = c.ticket; number = k; within = claim.ticket; shard = claim.shard; goes = (is, refl) })
 
   -- no lane was lent
-  pub leaves_none : (v w : PassData) (i : ℕ) → Calls v (LaneOut i) (Lane false) w → IsInPlace v → LeavesAll died faults p v w
+  pub leaves_none : (v w : PassData) (i : ℕ) → Calls v (LaneOut i) (Lane false) w → IsInPlace v → LeavesAll died is_bad p v w
   leaves_none v w i h place t q = leads_call v w (LaneOut i) (Lane false) t q q h place tt (λ old is. stays_there old t q is)
 
   -- a lane was lent and given back
   pub leaves_lent : (v w x : PassData) (i : ℕ) (lane : LaneData) (ss : List ℕ) → IsLent v i lane w → CallsWith w (LaneBack i) ss Noted 0 [] x
-      → IsInPlace v → v.lane ≡ 0 → v.lent ≡ [] → LeavesAll died faults p v x
+      → IsInPlace v → v.lane ≡ 0 → v.lent ≡ [] → LeavesAll died is_bad p v x
   leaves_lent v w x i lane ss h g place idle none t q =
       let out : Entry = entry v.number (LaneOut i) [] (Lane true) in
       let back : Entry = entry w.number (LaneBack i) ss Noted in
@@ -124,28 +124,28 @@ module _ (died : ℕ → ℕ → Type 0) (faults : ℕ → Type 0) (p : PlanData
       }
 
   -- the shard was won, and its part was kept
-  pub leads_kept : (v w x : PassData) (c : Claim) (k : ℕ) → Calls v (Settle c k) Won w → IsInPlace v → GivesEmits died faults c.shard k
-      → LeavesAll died faults p w x → Leads died faults p v x c.ticket (tries k) ended
+  pub leads_kept : (v w x : PassData) (c : Claim) (k : ℕ) → Calls v (Settle c k) Won w → IsInPlace v → GivesEmits died is_bad c.shard k
+      → LeavesAll died is_bad p w x → Leads died is_bad p v x c.ticket (tries k) ended
   leads_kept v w x c k h place truth leaves =
       leads_then v w x c.ticket (tries k) ended ended (leads_won v w c k h place truth) (leaves c.ticket ended)
 
-  module _ (u v w : PassData) (c : Claim) (so_far : Leads died faults p u v c.ticket asks asks) where
+  module _ (u v w : PassData) (c : Claim) (so_far : Leads died is_bad p u v c.ticket asks asks) where
     -- the ticket was given a number, and the attempt ended
-    pub leads_try : (x : PassData) (k : ℕ) (to : Phase) → Calls v (Number c) (Numbered (Some k)) w → Leads died faults p w x c.ticket (tries k) to
-        → Leads died faults p u x c.ticket asks to
+    pub leads_try : (x : PassData) (k : ℕ) (to : Phase) → Calls v (Number c) (Numbered (Some k)) w → Leads died is_bad p w x c.ticket (tries k) to
+        → Leads died is_bad p u x c.ticket asks to
     leads_try x k to h tried =
         leads_then u w x c.ticket asks (tries k) to (leads_then u v w c.ticket asks asks (tries k) so_far (leads_number v w c k h so_far.place)) tried
 
-    pub stops_try : (x : PassData) (k : ℕ) → Calls v (Number c) (Numbered (Some k)) w → Stops died faults p w x c.ticket (tries k)
-        → Stops died faults p u x c.ticket asks
+    pub stops_try : (x : PassData) (k : ℕ) → Calls v (Number c) (Numbered (Some k)) w → Stops died is_bad p w x c.ticket (tries k)
+        → Stops died is_bad p u x c.ticket asks
     stops_try x k h tried = (tried.0, leads_try x k tried.0 h tried.1)
 
     -- no number was left for it
-    pub leads_dry : Calls v (Number c) (Numbered None) w → Leads died faults p u w c.ticket asks ended
+    pub leads_dry : Calls v (Number c) (Numbered None) w → Leads died is_bad p u w c.ticket asks ended
     leads_dry h = leads_then u v w c.ticket asks asks ended so_far (leads_no_number v w c h so_far.place)
 
   -- a worker that has drawn no ticket
-  pub between_self : (v : PassData) → IsBetween died faults p v v
+  pub between_self : (v : PassData) → IsBetween died is_bad p v v
   between_self v = record {
     goes = goes_self v;
     begun = record {
@@ -160,20 +160,20 @@ module _ (died : ℕ → ℕ → Type 0) (faults : ℕ → Type 0) (p : PlanData
   }
 
   -- what a ticket adds to what was done before
-  begun_then : (u v w : PassData) (t : ℕ) (from to : Phase) (b : HasBegun died faults p u v) → t < length b.phases → phase_of b.phases t ≡ from
-      → Leads died faults p v w t from to → HasBegun died faults p u w
+  begun_then : (u v w : PassData) (t : ℕ) (from to : Phase) (b : HasBegun died is_bad p u v) → t < length b.phases → phase_of b.phases t ≡ from
+      → Leads died is_bad p v w t from to → HasBegun died is_bad p u w
   begun_then u v w t from to b low is h = record {
     further = b.further ++ h.further;
     phases = slice_set b.phases t to;
     later = h.later ∙ ap (λ (l : List Entry). l ++ h.further) b.later ∙ append_assoc u.mine b.further h.further;
-    truth = truth_then died faults b.further h.further b.truth h.truth;
+    truth = truth_then died is_bad b.further h.further b.truth h.truth;
     order = record {
       turns = advances_then p (replicate (count_of p) undrawn) b.phases (slice_set b.phases t to) b.further h.further b.order.turns
           (h.advances b.phases low is);
     };
   }
 
-  module _ (u v w : PassData) (c : Claim) (b : IsBetween died faults p u v) (of : v.ledger.plan ≡ p) (place : IsInPlace v)
+  module _ (u v w : PassData) (c : Claim) (b : IsBetween died is_bad p u v) (of : v.ledger.plan ≡ p) (place : IsInPlace v)
       (draw : Calls v Draw (Ticket (Some c)) w) where
     -- a ticket that was just drawn was not drawn before
     is_undrawn : phase_of b.begun.phases c.ticket ≡ undrawn
@@ -184,11 +184,11 @@ module _ (died : ℕ → ℕ → Type 0) (faults : ℕ → Type 0) (p : PlanData
     within : c.ticket < length b.begun.phases
     within = subst (λ (n : ℕ). c.ticket < n) (ap count_of of ∙ sym b.rows) (drawn_low v w c draw)
 
-    taken : (x : PassData) (to : Phase) → Leads died faults p w x c.ticket asks to → Leads died faults p v x c.ticket undrawn to
+    taken : (x : PassData) (to : Phase) → Leads died is_bad p w x c.ticket asks to → Leads died is_bad p v x c.ticket undrawn to
     taken x to h = leads_then v w x c.ticket undrawn asks to (leads_drawn v w c draw place) h
 
     -- the ticket came to its end
-    pub between_then : (x : PassData) → Leads died faults p w x c.ticket asks ended → IsBetween died faults p u x
+    pub between_then : (x : PassData) → Leads died is_bad p w x c.ticket asks ended → IsBetween died is_bad p u x
     unfolding begun_then
     between_then x tried =
         let h = taken x ended tried in
@@ -215,11 +215,11 @@ module _ (died : ℕ → ℕ → Type 0) (faults : ℕ → Type 0) (p : PlanData
             inr (still ∙ done.0, (done.1.0, done.1.1, drawn_since v x done.1.0 h.further h.later done.1.2))) (b.each t)
 
     -- the worker stopped on the ticket's way
-    pub stopped_then : (x : PassData) → Stops died faults p w x c.ticket asks → HasBegun died faults p u x
+    pub stopped_then : (x : PassData) → Stops died is_bad p w x c.ticket asks → HasBegun died is_bad p u x
     stopped_then x tried = begun_then u v x c.ticket undrawn tried.0 b.begun within is_undrawn (taken x tried.0 tried.1)
 
   -- a draw found no ticket
-  pub worked_now : (u v w : PassData) → IsBetween died faults p u v → Calls v Draw (Ticket None) w → HasWorked died faults p u w
+  pub worked_now : (u v w : PassData) → IsBetween died is_bad p u v → Calls v Draw (Ticket None) w → HasWorked died is_bad p u w
   worked_now u v w b h =
       let e : Entry = entry v.number Draw [] (Ticket None) in
       let d = b.begun in
@@ -228,7 +228,7 @@ module _ (died : ℕ → ℕ → Type 0) (faults : ℕ → Type 0) (p : PlanData
           further = d.further ++ e ∷ [];
           phases = d.phases;
           later = mine ∙ ap (λ (l : List Entry). l ++ e ∷ []) d.later ∙ append_assoc u.mine d.further (e ∷ []);
-          truth = truth_then died faults d.further (e ∷ []) d.truth (tt, tt);
+          truth = truth_then died is_bad d.further (e ∷ []) d.truth (tt, tt);
           order = record {
             turns = advances_then p (replicate (count_of p) undrawn) d.phases d.phases d.further (e ∷ []) d.order.turns (d.phases, refl, refl);
           };

@@ -401,10 +401,10 @@ next_taken ledger v other w pockets more pocket r is back t h longer =
     subst (HasTakenIn ledger w) (sym longer) (taken_in ledger v other w pockets pocket t here h)
 
 -- the ledger is closed
-pub all_left : (died : ℕ → ℕ → Type 0) (faults : ℕ → Type 0) (ledger : LedgerData) (v : PassData) (pockets lanes : List LaneData) (won deaths : List ℕ)
-    (least : Option ℕ) (log : List Entry) → HasTakenIn ledger v pockets → IsEnd died faults v log
+pub all_left : (died : ℕ → ℕ → Type 0) (is_bad : ℕ → Type 0) (ledger : LedgerData) (v : PassData) (pockets lanes : List LaneData) (won deaths : List ℕ)
+    (least : Option ℕ) (log : List Entry) → HasTakenIn ledger v pockets → IsEnd died is_bad v log
     → IsClosed v.ledger.plan (ends_in v log) lanes won deaths least → IsLeft died ledger.plan lanes pockets won deaths
-all_left died faults ledger v pockets lanes won deaths least log t e c =
+all_left died is_bad ledger v pockets lanes won deaths least log t e c =
     let p : PlanData = v.ledger.plan in
     let n : ℕ = v.ledger.lanes in
     let plan : IsPlan p = subst (λ (l : LedgerData). IsPlan l.plan) (sym t.of) t.plan in
@@ -421,7 +421,7 @@ all_left died faults ledger v pockets lanes won deaths least log t e c =
       only = λ s in'. subst (λ (ws : List ℕ). 0 < slice_index ws s) (sym c.settled)
           (left_only p n log plan e.legal v.joined pockets t.accounts e.joined s
           (subst (λ (ls : List LaneData). IsAmong s (shards_in ls ++ shards_in pockets)) c.lanes in'));
-      true_deaths = λ s k bit. noted_deaths_are_true died faults p n log plan e.legal e.reports s k
+      true_deaths = λ s k bit. noted_deaths_are_true died is_bad p n log plan e.legal e.reports s k
           (subst (λ (ds : List ℕ). bit_at (slice_index ds s) k ≡ 1) c.deaths bit);
       rows = (ap length c.settled ∙ rows.winners, ap length c.deaths ∙ rows.deaths);
     })

@@ -9,7 +9,7 @@ use Rattle.sz_claims.specs.Known.{PassData}
 use Rattle.sz_workers_loop.specs.Working.{Goes, IsInPlace}
 use Rattle.sz_workers_loop.specs.Advances.{AllTellTruth, HasBegun}
 
-module _ (died : ℕ → ℕ → Type 0) (faults : ℕ → Type 0) (p : PlanData) where
+module _ (died : ℕ → ℕ → Type 0) (is_bad : ℕ → Type 0) (p : PlanData) where
   -- The further calls tell the truth. Wherever ticket t is at the one phase, they take it to the other, and leave all other tickets
   -- alone
   pub record Leads (v w : PassData) (t : ℕ) (from to : Phase) : Type 0 where
@@ -17,7 +17,7 @@ module _ (died : ℕ → ℕ → Type 0) (faults : ℕ → Type 0) (p : PlanData
     pub place : IsInPlace w
     pub further : List Entry
     pub later : w.mine ≡ v.mine ++ further
-    pub truth : AllTellTruth died faults further
+    pub truth : AllTellTruth died is_bad further
     pub advances : (old : List Phase) → t < length old → phase_of old t ≡ from → TurnsAll p old further (slice_set old t to)
 
   -- the further calls leave each ticket where it is
@@ -31,7 +31,7 @@ module _ (died : ℕ → ℕ → Type 0) (faults : ℕ → Type 0) (p : PlanData
   -- The further calls left each ticket undrawn or ended. The pass drew those that ended
   pub record IsBetween (v w : PassData) : Type 0 where
     pub goes : Goes v w
-    pub begun : HasBegun died faults p v w
+    pub begun : HasBegun died is_bad p v w
     pub rows : length begun.phases ≡ count_of p
     pub each : (t : ℕ) → (phase_of begun.phases t ≡ undrawn)
         ⊎ ((phase_of begun.phases t ≡ ended) × ((c : Claim) × (c.ticket ≡ t) × HasDrawn c w.mine))

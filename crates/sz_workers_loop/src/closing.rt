@@ -19,7 +19,7 @@ pub fn close_all<T: Load>(
     requires alone { IsAlone ledger (length back.items) first }
     requires back { AreBack ledger 1 back.items }
     ensures left { IfOk result (λ left. IsLeft T.died ledger.plan left.0.lanes.items left.1.items left.0.settled left.0.deaths) }
-    ensures closed { IfOk result (λ left. (v : PassData) × (log : List Entry) × HasTakenIn ledger v left.1.items × IsEnd T.died T.faults v log
+    ensures closed { IfOk result (λ left. (v : PassData) × (log : List Entry) × HasTakenIn ledger v left.1.items × IsEnd T.died T.is_bad v log
         × IsClosed v.ledger.plan (ends_in v log) left.0.lanes.items left.0.settled left.0.deaths left.0.least_bad) }
 {
     let pockets = join_all(alloc, &ledger, &mut first, back)?;

@@ -28,7 +28,7 @@ pub trait Maker<T: Load> {
         requires within { claim.now.shard < (plan self.old).shards }
         requires number { number < (plan self.old).attempts }
         ensures part { IfOk result (λ part. (T.plan part ≡ plan self.old) × T.stands part (claim.now.shard ∷ [])) }
-        ensures gave { OnOk result (GivesEmits T.died T.faults claim.now.shard number) }
-        ensures missed { IfErr result (λ why. IsTrueMiss T.died T.faults claim.now.shard number why) }
+        ensures gave { OnOk result (GivesEmits T.died T.is_bad claim.now.shard number) }
+        ensures missed { IfErr result (λ why. IsTrueMiss T.died T.is_bad claim.now.shard number why) }
         ensures plan { plan self.new ≡ plan self.old };
 }

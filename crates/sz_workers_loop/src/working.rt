@@ -27,8 +27,8 @@ pub fn work<T: Load, M: Maker<T>>(
     ensures goes { Goes pass.old pass.new }
     ensures place { IsInPlace pass.new }
     ensures plan { M.plan maker.new ≡ M.plan maker.old }
-    ensures worked { OnOk result (HasWorked T.died T.faults ledger.now.plan pass.old pass.new) }
-    ensures begun { OnErr result (HasBegun T.died T.faults ledger.now.plan pass.old pass.new) }
+    ensures worked { OnOk result (HasWorked T.died T.is_bad ledger.now.plan pass.old pass.new) }
+    ensures begun { OnErr result (HasBegun T.died T.is_bad ledger.now.plan pass.old pass.new) }
     ensures grows { Grows pocket.old pocket.new }
     ensures hand { AreInHand pocket.new.shards pass.new.mine }
     ensures won { OnOk result (HasAllWon pass.new pocket.new) }
@@ -53,8 +53,8 @@ fn try_shard<T: Load, M: Maker<T>>(
     requires ready { IsAtWork pass.old pocket.old }
     requires drew { HasDrawn claim.now pass.old.mine }
     ensures plan { M.plan maker.new ≡ M.plan maker.old }
-    ensures ok { OnOk result (Leads T.died T.faults ledger.now.plan pass.old pass.new claim.now.ticket asks ended) }
-    ensures err { OnErr result (Stops T.died T.faults ledger.now.plan pass.old pass.new claim.now.ticket asks) }
+    ensures ok { OnOk result (Leads T.died T.is_bad ledger.now.plan pass.old pass.new claim.now.ticket asks ended) }
+    ensures err { OnErr result (Stops T.died T.is_bad ledger.now.plan pass.old pass.new claim.now.ticket asks) }
     ensures grows { Grows pocket.old pocket.new }
     ensures hand { AreInHand pocket.new.shards pass.new.mine }
     ensures won { OnOk result (HasAllWon pass.new pocket.new) }
@@ -84,8 +84,8 @@ fn try_once<T: Load, M: Maker<T>>(
     requires given { HasNumber claim.now number pass.old.mine }
     ensures plan { M.plan maker.new ≡ M.plan maker.old }
     ensures ok { IfOk result (λ done.
-        Leads T.died T.faults ledger.now.plan pass.old pass.new claim.now.ticket (tries number) (phase_after done)) }
-    ensures err { OnErr result (Stops T.died T.faults ledger.now.plan pass.old pass.new claim.now.ticket (tries number)) }
+        Leads T.died T.is_bad ledger.now.plan pass.old pass.new claim.now.ticket (tries number) (phase_after done)) }
+    ensures err { OnErr result (Stops T.died T.is_bad ledger.now.plan pass.old pass.new claim.now.ticket (tries number)) }
     ensures grows { Grows pocket.old pocket.new }
     ensures hand { AreInHand pocket.new.shards pass.new.mine }
     ensures won { OnOk result (HasAllWon pass.new pocket.new) }
@@ -123,8 +123,8 @@ fn settle<T: Load>(
     requires drew { HasDrawn claim.now pass.old.mine }
     requires given { HasNumber claim.now number pass.old.mine }
     requires part { (T.plan part ≡ ledger.now.plan) × T.stands part (claim.now.shard ∷ []) }
-    requires gave { GivesEmits T.died T.faults claim.now.shard number }
-    ensures led { Leads T.died T.faults ledger.now.plan pass.old pass.new claim.now.ticket (tries number) ended }
+    requires gave { GivesEmits T.died T.is_bad claim.now.shard number }
+    ensures led { Leads T.died T.is_bad ledger.now.plan pass.old pass.new claim.now.ticket (tries number) ended }
     ensures grows { Grows pocket.old pocket.new }
     ensures hand { AreInHand pocket.new.shards pass.new.mine }
     ensures won { OnOk result (HasAllWon pass.new pocket.new) }
@@ -149,7 +149,7 @@ fn keep<T: Load>(
     requires receipt { receipt.plan ≡ ledger.now.plan }
     requires ready { IsAtWork pass.old (longer_by pocket.old (receipt.shard ∷ [])) }
     requires part { (T.plan part ≡ ledger.now.plan) × T.stands part (receipt.shard ∷ []) }
-    ensures led { LeavesAll T.died T.faults ledger.now.plan pass.old pass.new }
+    ensures led { LeavesAll T.died T.is_bad ledger.now.plan pass.old pass.new }
     ensures grows { Grows pocket.old pocket.new }
     ensures hand { AreInHand pocket.new.shards pass.new.mine }
     ensures won { OnOk result (HasAllWon pass.new pocket.new) }

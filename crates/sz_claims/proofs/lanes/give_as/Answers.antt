@@ -12,11 +12,11 @@ store-requires g c =
     let lane = g.C.OfLane.lane in
     let shards = g.C.OfLane.shards in
     let P : ℕ → Me Slot View → Type 0 = λ j me.
-    Allows (Kept g.T.Load.died g.T.Load.faults key.plan key.lanes) c.args.shared.now.table_id.slots seat.id me j (λ _. 0) (λ _. Given lane shards me) in (
+    Allows (Kept g.T.Load.died g.T.Load.is_bad key.plan key.lanes) c.args.shared.now.table_id.slots seat.id me j (λ _. 0) (λ _. Given lane shards me) in (
       c.requires.table.0,
       c.requires.table.1,
       subst (λ j. P j seat.me) (sym c.requires.table.2)
           (subst (λ slots. P (turn_at key.plan lane) (seat.me.0, slots)) (sym c.requires.has_lane.2)
-          (gives_back g.T.Load.died g.T.Load.faults key.plan key.lanes c.args.shared.now.table_id.slots seat.id seat.me.0 lane
+          (gives_back g.T.Load.died g.T.Load.is_bad key.plan key.lanes c.args.shared.now.table_id.slots seat.id seat.me.0 lane
           (seat.me.0.lent ++ shards) shards c.requires.has_lane.0 c.requires.has_lane.1 refl c.requires.further)),
     )

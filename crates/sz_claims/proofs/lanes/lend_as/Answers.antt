@@ -11,10 +11,10 @@ compare_exchange-requires g c =
     let seat = c.args.seat.now in
     let slots = c.args.shared.now.table_id.slots in
     let P : ℕ → Type 0 = λ j.
-    Allows (Kept g.T.Load.died g.T.Load.faults key.plan key.lanes) slots seat.id seat.me j (λ m. either (m == 0) 1 m) (Lent g.C.OfLane.lane seat.me) in (
+    Allows (Kept g.T.Load.died g.T.Load.is_bad key.plan key.lanes) slots seat.id seat.me j (λ m. either (m == 0) 1 m) (Lent g.C.OfLane.lane seat.me) in (
       c.requires.table.0,
       c.requires.table.1,
       subst P (sym c.requires.lane.1)
-          (lends g.T.Load.died g.T.Load.faults key.plan key.lanes slots seat.id seat.me g.C.OfLane.lane c.requires.lane.0 c.requires.idle.0
+          (lends g.T.Load.died g.T.Load.is_bad key.plan key.lanes slots seat.id seat.me g.C.OfLane.lane c.requires.lane.0 c.requires.idle.0
           c.requires.idle.1),
     )

@@ -5,5 +5,5 @@ pub load-requires : goal.load-requires
 load-requires g c = (
   c.requires.table.0,
   c.requires.table.1,
-  calls g.T.Load.died g.T.Load.faults _ _ _ _ _ _ (λ n. n) _ g.C.Asked.reply c.requires.may,
+  calls g.T.Load.died g.T.Load.is_bad _ _ _ _ _ _ (λ n. n) _ g.C.Asked.reply c.requires.may,
 )

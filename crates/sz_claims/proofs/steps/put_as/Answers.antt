@@ -7,5 +7,5 @@ pub compare_exchange-requires : goal.compare_exchange-requires
 compare_exchange-requires g c = (
   c.requires.table.0,
   c.requires.table.1,
-  calls g.T.Load.died g.T.Load.faults _ _ _ _ _ _ (λ n. either (n == 0) c.args.new n) _ g.C.Asked.reply c.requires.may,
+  calls g.T.Load.died g.T.Load.is_bad _ _ _ _ _ _ (λ n. either (n == 0) c.args.new n) _ g.C.Asked.reply c.requires.may,
 )

@@ -13,7 +13,7 @@ put-requires-clause-fresh g c = last_apart c.args.pocket.now.shards c.args.recei
 
 pub returns-in_default-clause-led : goal.returns-in_default-clause-led
 returns-in_default-clause-led g c =
-    leaves_none g.T.Load.died g.T.Load.faults c.args.ledger.now.plan c.args.pass.now c.lend.new.pass c.args.lane_no c.in_default.ensures.none
+    leaves_none g.T.Load.died g.T.Load.is_bad c.args.ledger.now.plan c.args.pass.now c.lend.new.pass c.args.lane_no c.in_default.ensures.none
     c.requires.ready.place
 
 pub returns-in_default-clause-hand : goal.returns-in_default-clause-hand
@@ -44,7 +44,7 @@ give-requires-clause-may g c =
 
 pub returns-clause-led : goal.returns-clause-led
 returns-clause-led g c =
-    leaves_lent g.T.Load.died g.T.Load.faults c.args.ledger.now.plan c.args.pass.now c.lend.new.pass c.give.new.pass c.args.lane_no c.in-Some.lane _
+    leaves_lent g.T.Load.died g.T.Load.is_bad c.args.ledger.now.plan c.args.pass.now c.lend.new.pass c.give.new.pass c.args.lane_no c.in-Some.lane _
     c.in-Some.ensures.some c.give.ensures.call c.requires.ready.place c.requires.ready.idle c.requires.ready.none_lent
 
 pub returns-clause-hand : goal.returns-clause-hand

@@ -14,7 +14,7 @@ keep-requires-clause-ready g c =
 
 pub returns-in-Won-clause-led : goal.returns-in-Won-clause-led
 returns-in-Won-clause-led g c =
-    leads_kept g.T.Load.died g.T.Load.faults c.args.ledger.now.plan c.args.pass.now c.settle.new.pass c.keep.new.pass c.args.claim.now c.args.number
+    leads_kept g.T.Load.died g.T.Load.is_bad c.args.ledger.now.plan c.args.pass.now c.settle.new.pass c.keep.new.pass c.args.claim.now c.args.number
     c.in-Won.ensures.call c.requires.ready.place c.requires.gave c.keep.ensures.led
 
 -- another attempt had settled it

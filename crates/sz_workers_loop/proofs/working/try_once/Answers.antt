@@ -30,9 +30,9 @@ bad-requires-clause-within g c =
     subst (λ (l : LedgerData). c.args.claim.now.shard < l.plan.shards) c.requires.of.0
     (claims_shard c.args.pass.now c.args.claim.now c.requires.ready.place c.requires.drew)
 
-pub bad-requires-clause-faults : goal.bad-requires-clause-faults
-bad-requires-clause-faults g c =
-    (subst (IsTrueMiss g.T.Load.died g.T.Load.faults c.args.claim.now.shard c.args.number) c.in-Err-Bad.field-0-is c.in-Err-Bad.ensures.missed).1
+pub bad-requires-clause-bad : goal.bad-requires-clause-bad
+bad-requires-clause-bad g c =
+    (subst (IsTrueMiss g.T.Load.died g.T.Load.is_bad c.args.claim.now.shard c.args.number) c.in-Err-Bad.field-0-is c.in-Err-Bad.ensures.missed).1
 
 -- it died
 pub returns-in-Err-Died-clause-hand : goal.returns-in-Err-Died-clause-hand
@@ -47,9 +47,9 @@ returns-in-Err-Died-clause-won g c =
 -- its shard faults
 pub returns-in-Err-Bad-clause-ok : goal.returns-in-Err-Bad-clause-ok
 returns-in-Err-Bad-clause-ok g c =
-    leads_bad g.T.Load.died g.T.Load.faults c.args.ledger.now.plan c.args.pass.now c.bad.new.pass c.args.claim.now c.args.number c.bad.ensures.call
+    leads_bad g.T.Load.died g.T.Load.is_bad c.args.ledger.now.plan c.args.pass.now c.bad.new.pass c.args.claim.now c.args.number c.bad.ensures.call
     c.requires.ready.place (ap (λ (l : LedgerData). l.plan) c.requires.of.0) c.requires.drew
-    (subst (IsTrueMiss g.T.Load.died g.T.Load.faults c.args.claim.now.shard c.args.number) c.in-Err-Bad.field-0-is c.in-Err-Bad.ensures.missed).1
+    (subst (IsTrueMiss g.T.Load.died g.T.Load.is_bad c.args.claim.now.shard c.args.number) c.in-Err-Bad.field-0-is c.in-Err-Bad.ensures.missed).1
 
 pub returns-in-Err-Bad-clause-hand : goal.returns-in-Err-Bad-clause-hand
 returns-in-Err-Bad-clause-hand g c =
@@ -64,6 +64,6 @@ returns-in-Err-Bad-clause-won g c =
 pub returns-in-Err-NoMemory-clause-err : goal.returns-in-Err-NoMemory-clause-err
 returns-in-Err-NoMemory-clause-err g c = (
   tries c.args.number,
-  leads_self g.T.Load.died g.T.Load.faults c.args.ledger.now.plan c.args.pass.now c.args.claim.now.ticket (tries c.args.number)
+  leads_self g.T.Load.died g.T.Load.is_bad c.args.ledger.now.plan c.args.pass.now c.args.claim.now.ticket (tries c.args.number)
       c.requires.ready.place,
 )

@@ -30,7 +30,7 @@ try_once-requires-clause-given g c =
 pub returns-in_err-try_once-clause-err : goal.returns-in_err-try_once-clause-err
 returns-in_err-try_once-clause-err g c =
     let p = err_from_is_err_and c.from_residual.result c.from_residual.ensures.1 in
-    rw p.1 (stops_try g.T.Load.died g.T.Load.faults c.args.ledger.now.plan c.args.pass.now c.loop-number.pass c.number.new.pass c.args.claim.now
+    rw p.1 (stops_try g.T.Load.died g.T.Load.is_bad c.args.ledger.now.plan c.args.pass.now c.loop-number.pass c.number.new.pass c.args.claim.now
     c.loop-number.invariant.0 c.try_once.new.pass c.in-Some.number c.in-Some.ensures.call c.in_err-try_once.ensures.err)
 
 pub returns-in_err-try_once-clause-grows : goal.returns-in_err-try_once-clause-grows
@@ -40,9 +40,9 @@ returns-in_err-try_once-clause-grows g c =
 -- the ticket has ended
 pub returns-then-branch-clause-ok : goal.returns-then-branch-clause-ok
 returns-then-branch-clause-ok g c =
-    leads_try g.T.Load.died g.T.Load.faults c.args.ledger.now.plan c.args.pass.now c.loop-number.pass c.number.new.pass c.args.claim.now
+    leads_try g.T.Load.died g.T.Load.is_bad c.args.ledger.now.plan c.args.pass.now c.loop-number.pass c.number.new.pass c.args.claim.now
     c.loop-number.invariant.0 c.try_once.new.pass c.in-Some.number ended c.in-Some.ensures.call
-    (subst (λ (b : Bool). Leads g.T.Load.died g.T.Load.faults c.args.ledger.now.plan c.number.new.pass c.try_once.new.pass c.args.claim.now.ticket
+    (subst (λ (b : Bool). Leads g.T.Load.died g.T.Load.is_bad c.args.ledger.now.plan c.number.new.pass c.try_once.new.pass c.args.claim.now.ticket
     (tries c.in-Some.number) (phase_after b)) c.if-branch.true c.in_ok-try_once.ensures.ok)
 
 pub returns-then-branch-clause-grows : goal.returns-then-branch-clause-grows
@@ -59,11 +59,11 @@ pub loop-number-preserved : goal.loop-number-preserved
 loop-number-preserved g c =
     let drew = has_drawn_still c.loop-number.pass c.number.new.pass c.args.claim.now (Number c.args.claim.now) (Numbered (Some c.in-Some.number))
     c.in-Some.ensures.call c.loop-number.invariant.2 in
-    let led = subst (λ (b : Bool). Leads g.T.Load.died g.T.Load.faults c.args.ledger.now.plan c.number.new.pass c.try_once.new.pass
+    let led = subst (λ (b : Bool). Leads g.T.Load.died g.T.Load.is_bad c.args.ledger.now.plan c.number.new.pass c.try_once.new.pass
     c.args.claim.now.ticket (tries c.in-Some.number) (phase_after b)) c.if-branch.false c.in_ok-try_once.ensures.ok in
     let at = at_work_call c.loop-number.pass c.number.new.pass c.loop-number.pocket (Number c.args.claim.now) (Numbered (Some c.in-Some.number))
     c.in-Some.ensures.call (λ s is e. is) c.loop-number.invariant.1 in (
-      leads_try g.T.Load.died g.T.Load.faults c.args.ledger.now.plan c.args.pass.now c.loop-number.pass c.number.new.pass c.args.claim.now
+      leads_try g.T.Load.died g.T.Load.is_bad c.args.ledger.now.plan c.args.pass.now c.loop-number.pass c.number.new.pass c.args.claim.now
           c.loop-number.invariant.0 c.try_once.new.pass c.in-Some.number asks c.in-Some.ensures.call led,
       at_work_then c.number.new.pass c.try_once.new.pass c.loop-number.pocket c.try_once.new.pocket at led.goes led.place
           c.try_once.ensures.grows c.try_once.ensures.hand c.in_ok-try_once.ensures.won,
@@ -75,7 +75,7 @@ loop-number-preserved g c =
 -- no number was left
 pub returns-clause-ok : goal.returns-clause-ok
 returns-clause-ok g c =
-    leads_dry g.T.Load.died g.T.Load.faults c.args.ledger.now.plan c.args.pass.now c.loop-number.pass c.number.new.pass c.args.claim.now
+    leads_dry g.T.Load.died g.T.Load.is_bad c.args.ledger.now.plan c.args.pass.now c.loop-number.pass c.number.new.pass c.args.claim.now
     c.loop-number.invariant.0 c.in_default.ensures.call
 
 pub returns-clause-hand : goal.returns-clause-hand

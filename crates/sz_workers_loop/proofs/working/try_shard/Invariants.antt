@@ -9,7 +9,7 @@ use Rattle.sz_workers_loop.proofs.working.try_shard.Given as goal
 -- the ticket is to ask for a number
 abbrev pub invariant-loop-number : goal.invariant-loop-number
 invariant-loop-number g l =
-    Leads g.T.Load.died g.T.Load.faults l.ledger.plan l.initial.pass l.pass l.claim.ticket asks asks × IsAtWork l.pass l.pocket
+    Leads g.T.Load.died g.T.Load.is_bad l.ledger.plan l.initial.pass l.pass l.claim.ticket asks asks × IsAtWork l.pass l.pocket
     × HasDrawn l.claim l.pass.mine × (g.M.Maker.plan l.maker ≡ g.M.Maker.plan l.initial.maker) × Grows l.initial.pocket l.pocket
 
 abbrev pub decreases-loop-number : goal.decreases-loop-number

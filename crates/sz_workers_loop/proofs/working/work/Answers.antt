@@ -12,7 +12,7 @@ use Rattle.sz_workers_loop.proofs.working.work.Goals as goal
 -- none was drawn yet
 pub loop-claim-init : goal.loop-claim-init
 loop-claim-init g c = (
-  between_self g.T.Load.died g.T.Load.faults c.args.ledger.now.plan c.args.pass.now,
+  between_self g.T.Load.died g.T.Load.is_bad c.args.ledger.now.plan c.args.pass.now,
   c.requires.ready,
   refl,
   grows_self c.args.pocket.now,
@@ -37,7 +37,7 @@ loop-claim-preserved g c =
     let of = ap (λ (l : LedgerData). l.plan) (c.loop-claim.invariant.0.goes.ledger ∙ c.requires.of.0) in
     let at = at_work_call c.loop-claim.pass c.draw.new.pass c.loop-claim.pocket Draw (Ticket (Some c.in-Some.claim)) c.in-Some.ensures.call
     (λ s is e. is) c.loop-claim.invariant.1 in (
-      between_then g.T.Load.died g.T.Load.faults c.args.ledger.now.plan c.args.pass.now c.loop-claim.pass c.draw.new.pass c.in-Some.claim
+      between_then g.T.Load.died g.T.Load.is_bad c.args.ledger.now.plan c.args.pass.now c.loop-claim.pass c.draw.new.pass c.in-Some.claim
           c.loop-claim.invariant.0 of c.loop-claim.invariant.1.place c.in-Some.ensures.call c.try_shard.new.pass led,
       at_work_then c.draw.new.pass c.try_shard.new.pass c.loop-claim.pocket c.try_shard.new.pocket at led.goes led.place
           c.try_shard.ensures.grows c.try_shard.ensures.hand c.in_ok-try_shard.ensures.won,
@@ -50,7 +50,7 @@ pub returns-in_err-try_shard-clause-begun : goal.returns-in_err-try_shard-clause
 returns-in_err-try_shard-clause-begun g c =
     let of = ap (λ (l : LedgerData). l.plan) (c.loop-claim.invariant.0.goes.ledger ∙ c.requires.of.0) in
     let p = err_from_is_err_and c.from_residual.result c.from_residual.ensures.1 in
-    rw p.1 (stopped_then g.T.Load.died g.T.Load.faults c.args.ledger.now.plan c.args.pass.now c.loop-claim.pass c.draw.new.pass c.in-Some.claim
+    rw p.1 (stopped_then g.T.Load.died g.T.Load.is_bad c.args.ledger.now.plan c.args.pass.now c.loop-claim.pass c.draw.new.pass c.in-Some.claim
     c.loop-claim.invariant.0 of c.loop-claim.invariant.1.place c.in-Some.ensures.call c.try_shard.new.pass c.in_err-try_shard.ensures.err)
 
 pub returns-in_err-try_shard-clause-grows : goal.returns-in_err-try_shard-clause-grows
@@ -60,7 +60,7 @@ returns-in_err-try_shard-clause-grows g c =
 -- none was left
 pub returns-clause-worked : goal.returns-clause-worked
 returns-clause-worked g c =
-    worked_now g.T.Load.died g.T.Load.faults c.args.ledger.now.plan c.args.pass.now c.loop-claim.pass c.draw.new.pass c.loop-claim.invariant.0
+    worked_now g.T.Load.died g.T.Load.is_bad c.args.ledger.now.plan c.args.pass.now c.loop-claim.pass c.draw.new.pass c.loop-claim.invariant.0
     c.in_default.ensures.call
 
 pub returns-clause-hand : goal.returns-clause-hand

@@ -16,7 +16,7 @@ lower-requires-clause-may g c =
     record {
       live = c.pass.invariant.live;
       plain = tt;
-      report = c.requires.faults;
+      report = c.requires.bad;
       moves =
           subst P same (bad_moves p lanes c.pass.inside.seat.me.0 c.args.shard (let low = c.requires.within in let v = c.shards.ensures.value in
           omega arith));

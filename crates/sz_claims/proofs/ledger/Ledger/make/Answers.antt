@@ -5,7 +5,7 @@ use Rattle.sz_claims.proofs.ledger.Ledger.make.Goals as goal
 
 pub new-requires : goal.new-requires
 new-requires g c =
-    opens g.T.Load.died g.T.Load.faults c.args.plan _ c.as_slice.result.now _ c.args.lanes.items c.shards.ensures.kept
+    opens g.T.Load.died g.T.Load.is_bad c.args.plan _ c.as_slice.result.now _ c.args.lanes.items c.shards.ensures.kept
     (c.as_slice.ensures.value ∙ c.in_ok-words.ensures ∙ ap (λ n. replicate (3 * n + 1) 0 ++ 2 ^ 32 ∷ replicate c.len-count.result 0) c.shards-3.ensures.value)
     c.in_ok-slots.ensures.value (let a = c.len-count.ensures in let b = c.args.lanes.ok.0 in omega arith) c.requires.empty
 

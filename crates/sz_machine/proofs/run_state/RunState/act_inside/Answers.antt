@@ -54,7 +54,7 @@ returns-in_ok-binary-in-Binary c =
 pub returns-in-Test : goal.returns-in-Test
 returns-in-Test c =
     let is : c.args.instr.now ≡ instr.Test c.in-Test.to c.in-Test.past = search rules in
-    record { value = rw c.again.ensures.value (IfOk-weaker c.test.result _ _ (λ next does a at. rw is (does a)) c.test.ensures.value) }
+    record { value = rw c.rebuilt.ensures.value (IfOk-weaker c.test.result _ _ (λ next does a at. rw is (does a)) c.test.ensures.value) }
 
 pub returns-in-AndTest : goal.returns-in-AndTest
 returns-in-AndTest c =

@@ -1,6 +1,6 @@
 -- Each line leads on towards the end.
 use Rattle.std.proofs.Common.{rules, arith, ◌≡◌, ◌+◌, refl, subst}
-use Rattle.sz_machine.specs.declared.run_state.Next.TheVariants.{On, To, End, Fault}
+use Rattle.sz_machine.specs.declared.run_state.Onward.TheVariants.{On, To, End, Fault}
 use Rattle.sz_machine.specs.Acting.{state_of, in_static}
 use Rattle.sz_machine.specs.CodeRuns.{LineDoes}
 use Rattle.sz_machine.proofs.RunLemmas.{is_within, ends_still, on_within, to_within, on_less, to_less, halts_there, faults_there}

@@ -2,4 +2,4 @@
 use Rattle.sz_machine.proofs.run_state.RunState.store_apart.Goals as goal
 
 pub returns : goal.returns
-returns c = record { value = rw c.again.ensures.value c.store_part.ensures.value }
+returns c = record { value = rw c.rebuilt.ensures.value c.store_part.ensures.value }
