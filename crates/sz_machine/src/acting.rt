@@ -8,7 +8,7 @@ ghost use Rattle.sz_machine_rules.specs.Covering.{Covers};
 ghost use Rattle.sz_machine.specs.Acting.{DoesFromTo, DoesWhere, state_of, weighs_and_acts, base_charge, TakesCandidate};
 ghost use Rattle.sz_machine.specs.Acting.{IsInside, IsApart, IsCovered, in_record, in_static};
 
-use crate::run_state::{Onward, RunState, rebuilt, if_paid};
+use crate::run_state::{Onward, RunState, if_paid, rebuilt};
 use std::alloc::Global;
 use sz_instr::{Code, Instr};
 use sz_machine_cells::Cell;
@@ -29,7 +29,12 @@ impl<'a> RunState<'a> {
     }
 
     /// Pushes a copy of the static, as statics still change.
-    pub fn copy_static(&mut self, alloc: Global, statics: &Slots, n: u32) -> Result<Onward, NoMemory>
+    pub fn copy_static(
+        &mut self,
+        alloc: Global,
+        statics: &Slots,
+        n: u32,
+    ) -> Result<Onward, NoMemory>
         requires within { n < length statics.now }
         ensures value { (code : Code) (place : Place) → IfOk result (λ next.
             DoesWhere place (λ a. a.statics ≡ statics.now) (act code (instr.Static n)) self.old next self.new) }

@@ -6,7 +6,7 @@ ghost use Rattle.sz_machine.specs.Acting.{Does, DoesAt, if_passed};
 ghost use Rattle.sz_machine.specs.declared.run_state.Onward.TheVariants.{On};
 ghost use Rattle.sz_machine.specs.Storing.{stores_values};
 
-use crate::run_state::{Onward, RunState, STORE_OUTSIDE, rebuilt, if_passed};
+use crate::run_state::{Onward, RunState, STORE_OUTSIDE, if_passed, rebuilt};
 use std::alloc::Global;
 use sz_instr::{Code, Step, Steps};
 use sz_machine_cells::{indexes_in, stored_in};

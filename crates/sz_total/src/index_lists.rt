@@ -24,10 +24,14 @@ use sz_value::List;
 
 /// The aggregator under each index list that something was emitted under. The lists are kept flat. Whoever writes the records picks the
 /// indexes, so they are hashed by a function that forgets nothing before its end.
-pub(crate) type Lists<'a> = IndexMap<FlatList, Aggregate<'a>, BuildHasherDefault<DefaultHasher>>;
+pub(crate) type IndexLists<'a> = IndexMap<
+    FlatList,
+    Aggregate<'a>,
+    BuildHasherDefault<DefaultHasher>,
+>;
 
 // No index lists, which takes no memory.
-pub(crate) fn no_lists<'a>(alloc: Global) -> Lists<'a>
+pub(crate) fn no_lists<'a>(alloc: Global) -> IndexLists<'a>
     ensures empty { IsEmpty result }
     ensures len { index_map_len result ≡ 0 }
 {
@@ -39,7 +43,7 @@ pub(crate) fn no_lists<'a>(alloc: Global) -> Lists<'a>
 pub(crate) fn take_emit<'a>(
     alloc: Global,
     table: &'a TableDecl,
-    lists: &mut Lists<'a>,
+    lists: &mut IndexLists<'a>,
     key: &mut FlatList,
     emit: &Emit,
 ) -> Result<(), NoMemory>
@@ -60,7 +64,7 @@ pub(crate) fn take_emit<'a>(
 }
 
 // Whether the first index list is the empty one.
-fn is_first_without_indexes<'a>(lists: &Lists<'a>) -> bool
+fn is_first_without_indexes<'a>(lists: &IndexLists<'a>) -> bool
     ensures first { (result ≡ true) → slice_get (keys_of lists.now.entries) 0 ≡ Some [] }
 {
     match lists.first() {
@@ -73,7 +77,7 @@ fn is_first_without_indexes<'a>(lists: &Lists<'a>) -> bool
 fn take_hashed<'a>(
     alloc: Global,
     table: &'a TableDecl,
-    lists: &mut Lists<'a>,
+    lists: &mut IndexLists<'a>,
     key: &FlatList,
     emit: &Emit,
 ) -> Result<(), NoMemory>
@@ -96,7 +100,7 @@ fn take_hashed<'a>(
 fn put_emit<'a>(
     alloc: Global,
     table: &'a TableDecl,
-    lists: &mut Lists<'a>,
+    lists: &mut IndexLists<'a>,
     key: &FlatList,
     emit: &Emit,
 ) -> Result<(), NoMemory>
@@ -117,7 +121,7 @@ fn put_emit<'a>(
 }
 
 // The rows under each index list, these in value order.
-pub(crate) fn all_rows<'a>(alloc: Global, lists: &Lists<'a>) -> Result<TableRows, NoMemory>
+pub(crate) fn all_rows<'a>(alloc: Global, lists: &IndexLists<'a>) -> Result<TableRows, NoMemory>
     ensures value { IfOk result (λ rows. rows ≡ rows_in_order lists.now.entries) }
     ensures bounded { OnOk result (AreBounded lists.now.entries) }
 {
@@ -134,7 +138,10 @@ fn order_lists(one: &List, other: &List) -> Ordering
 }
 
 // The rows under each index list, in the order in which these came. No two of them are the same.
-fn rows_as_they_came<'a>(alloc: Global, lists: &Lists<'a>) -> Result<Vec<IndexedRows>, NoMemory>
+fn rows_as_they_came<'a>(
+    alloc: Global,
+    lists: &IndexLists<'a>,
+) -> Result<Vec<IndexedRows>, NoMemory>
     ensures value { IfOk result (λ rows. rows.items ≡ map entry_rows lists.now.entries) }
     ensures apart { OnOk result (IsDistinct same_indexes (keys_of lists.now.entries)) }
     ensures bounded { OnOk result (AreBounded lists.now.entries) }

@@ -8,13 +8,16 @@ ghost use Rattle.sz_total.specs.Joining.{GainsRoom, LooksTheSame, BeginsWithSum,
 ghost use Rattle.sz_total.specs.Joining.{MayTakeUnder, AreAlike, AreReady, TakesOne, JoinsEntries};
 
 use crate::aggregate::{Aggregate, is_sum, merge_into, reserve_for};
-use crate::index_lists::Lists;
+use crate::index_lists::IndexLists;
 use indexmap::map::Entry;
 use sz_flat::FlatList;
 use sz_tabs::NoMemory;
 
 // Makes room for a merge of the other side: for its index lists, and in the aggregators that both sides have. Sums need none of their own.
-pub(crate) fn make_room<'a>(lists: &mut Lists<'a>, others: &Lists<'a>) -> Result<(), NoMemory>
+pub(crate) fn make_room<'a>(
+    lists: &mut IndexLists<'a>,
+    others: &IndexLists<'a>,
+) -> Result<(), NoMemory>
     requires alike { AreAlike lists.old.entries others.now.entries }
     ensures ok { OnOk result (HaveRoomFor lists.new.entries others.now.entries) }
     ensures spare { OnOk result (index_map_len others.now ≤ spare lists.new) }
@@ -29,7 +32,7 @@ pub(crate) fn make_room<'a>(lists: &mut Lists<'a>, others: &Lists<'a>) -> Result
 }
 
 // Whether the first aggregator is a sum, if there is one. All are of one family.
-fn begin_with_sum<'a>(others: &Lists<'a>) -> bool
+fn begin_with_sum<'a>(others: &IndexLists<'a>) -> bool
     ensures sum { (result ≡ true) → BeginsWithSum others.now.entries }
 {
     match others.first() {
@@ -39,7 +42,10 @@ fn begin_with_sum<'a>(others: &Lists<'a>) -> bool
 }
 
 // Makes room in the aggregators that both sides have.
-fn make_room_in_each<'a>(lists: &mut Lists<'a>, others: &Lists<'a>) -> Result<(), NoMemory>
+fn make_room_in_each<'a>(
+    lists: &mut IndexLists<'a>,
+    others: &IndexLists<'a>,
+) -> Result<(), NoMemory>
     requires alike { AreAlike lists.old.entries others.now.entries }
     ensures ok { OnOk result (HaveRoomFor lists.new.entries others.now.entries) }
     ensures kept { LooksTheSame lists.old.entries lists.new.entries }
@@ -54,7 +60,7 @@ fn make_room_in_each<'a>(lists: &mut Lists<'a>, others: &Lists<'a>) -> Result<()
 
 // Makes room for the other aggregator in that under its index list, if there is one.
 fn make_room_under<'a>(
-    lists: &mut Lists<'a>,
+    lists: &mut IndexLists<'a>,
     key: &FlatList,
     other: &Aggregate<'a>,
 ) -> Result<(), NoMemory>
@@ -71,7 +77,7 @@ fn make_room_under<'a>(
 }
 
 // Takes each aggregator of the other side. There is room for them.
-pub(crate) fn take_all<'a>(lists: &mut Lists<'a>, others: Lists<'a>)
+pub(crate) fn take_all<'a>(lists: &mut IndexLists<'a>, others: IndexLists<'a>)
     requires ready { AreReady (2 ^ 63) lists.old.entries others.entries }
     requires room { index_map_len others ≤ spare lists.old }
     ensures value { JoinsEntries others.entry.entries lists.old.entries lists.new.entries }
@@ -83,7 +89,7 @@ pub(crate) fn take_all<'a>(lists: &mut Lists<'a>, others: Lists<'a>)
 }
 
 // Joins the other aggregator with that under its index list, or puts it there. There is room for it.
-fn take<'a>(lists: &mut Lists<'a>, key: FlatList, other: Aggregate<'a>)
+fn take<'a>(lists: &mut IndexLists<'a>, key: FlatList, other: Aggregate<'a>)
     requires may { MayTakeUnder (2 ^ 63) lists.old.entries (key, other) }
     requires room { 0 < spare lists.old }
     ensures value { TakesOne key other.entry lists.old.entries lists.new.entries }

@@ -8,7 +8,7 @@ ghost use Rattle.sz_total.specs.OneTable.{table_shown, GainsEmit, ChangesRoomAlo
 ghost use Rattle.sz_total.specs.Short.{HasShortParts};
 ghost use Rattle.sz_total.specs.Weights.{HasItsWeights};
 
-use crate::index_lists::{Lists, all_rows, no_lists, take_emit};
+use crate::index_lists::{IndexLists, all_rows, no_lists, take_emit};
 use crate::indexed::TableRows;
 use crate::joining::{make_room, take_all};
 use std::alloc::Global;
@@ -25,7 +25,7 @@ pub(crate) struct OneTable<'a> {
     table: &'a TableDecl,
     count: u64,
     room: usize,
-    lists: Lists<'a>,
+    lists: IndexLists<'a>,
     key: FlatList,
 }
 

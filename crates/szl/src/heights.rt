@@ -25,7 +25,7 @@ impl Stack {
     pub fn holds_types(self, types: &[NamedType]) -> bool {
         match self {
             Stack::Large => true,
-            Stack::Small => named_low(types),
+            Stack::Small => are_named_low(types),
         }
     }
 
@@ -33,7 +33,7 @@ impl Stack {
     pub fn holds(self, tokens: &[Token]) -> bool {
         match self {
             Stack::Large => true,
-            Stack::Small => names_low(tokens),
+            Stack::Small => are_declared_low(tokens),
         }
     }
 }
@@ -49,7 +49,7 @@ fn adds_level(token: &Token) -> bool {
 
 /// Whether the types that are declared in these tokens are low, with all names written out: such a type is at most as high as all their
 /// declarations together, which are counted from the word `type` to the next semicolon.
-fn names_low(tokens: &[Token]) -> bool {
+fn are_declared_low(tokens: &[Token]) -> bool {
     let mut levels: u32 = 0;
     let mut is_declared = false;
     for token in tokens {
@@ -101,7 +101,7 @@ fn are_low(types: &Tys) -> bool {
 }
 
 /// Whether the types with these names are low.
-fn named_low(types: &[NamedType]) -> bool {
+fn are_named_low(types: &[NamedType]) -> bool {
     for named in types {
         if !is_low(&named.ty, LOW) {
             return false;
