@@ -397,6 +397,13 @@ has_is types meanings name (block ∷ blocks) sight locals = in_block block
         by true rest = refl
         by false rest = rest
 
+-- a type that is kept at a place has one of so many numbers
+pub typed_at : (count : ℕ) (ms : List Kept) (at : Option ℕ) (m : Kept) → AreTyped count ms → kept_at ms at ≡ Some m → IsTyped count m
+typed_at count ms None m h p = subst (IsTyped count) (same_Some stored.Input m p) tt
+typed_at count [] (Some n) m h p = absurd (none-some m p)
+typed_at count (k ∷ ms) (Some zero) m h p = subst (IsTyped count) (same_Some k m p) h.0
+typed_at count (k ∷ ms) (Some (suc n)) m h p = typed_at count ms (Some n) m h.1 p
+
 -- a type more
 module _ (types : List Shape) (t : Shape) (meanings : List Kept) where
   meaning_same : (m : Kept) → IsTyped (length types) m → meaning_of (types ++ t ∷ []) m ≡ meaning_of types m
@@ -408,12 +415,6 @@ module _ (types : List Shape) (t : Shape) (meanings : List Kept) where
   meaning_same (stored.Function n s) h = refl
   meaning_same (stored.Predeclared b) h = refl
   meaning_same stored.Input h = refl
-
-  typed_at : (count : ℕ) (ms : List Kept) (at : Option ℕ) (m : Kept) → AreTyped count ms → kept_at ms at ≡ Some m → IsTyped count m
-  typed_at count ms None m h p = subst (IsTyped count) (same_Some stored.Input m p) tt
-  typed_at count [] (Some n) m h p = absurd (none-some m p)
-  typed_at count (k ∷ ms) (Some zero) m h p = subst (IsTyped count) (same_Some k m p) h.0
-  typed_at count (k ∷ ms) (Some (suc n)) m h p = typed_at count ms (Some n) m h.1 p
 
   means_same : (what : Place) → IsPlaced meanings what → AreTyped (length types) meanings
       → meaning_by (types ++ t ∷ []) meanings what ≡ meaning_by types meanings what

@@ -1,5 +1,5 @@
 -- What contracts see of what is known in front of a statement.
-use Rattle.std.specs.Prelude.{◌≡◌, ℕ, suc, List, [], ◌∷◌, length, Option}
+use Rattle.std.specs.Prelude.{◌≡◌, ◌<◌, ℕ, suc, List, [], ◌∷◌, length, Option}
 use Rattle.std.specs.Option.{option_map}
 use Rattle.sz_types.specs.Data.{Shape}
 use Rattle.sz_types.specs.Seen.{seen}
@@ -40,9 +40,9 @@ means_of (lent.Function n s) = names.function n (signature_of s.now)
 means_of (lent.Predeclared b) = names.predeclared b
 means_of lent.Input = names.input
 
--- a type that is lent is lent with these types
+-- a type that is lent is one of these types, and lent with them
 abbrev pub IsOfTypes : List Shape → Means → Type 0
-IsOfTypes types (lent.«Type» t) = t.types.now ≡ types
+IsOfTypes types (lent.«Type» t) = (t.types.now ≡ types) × (t.number < length types)
 IsOfTypes types _ = Unit {0}
 
 abbrev pub maybe_means_of : Option Means → Option Meaning

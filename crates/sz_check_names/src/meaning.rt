@@ -1,5 +1,6 @@
 //! What names stand for.
-ghost use Rattle.std.specs.Prelude.{◌≡◌};
+ghost use Rattle.std.specs.Prelude.{◌≡◌, length};
+ghost use Rattle.sz_check_names.specs.Keeping.{IsTyped};
 ghost use Rattle.sz_check_names.specs.Knowledge.{meaning_of, means_of, IsOfTypes};
 
 use crate::written::{NamedType, NamedTypes};
@@ -50,6 +51,7 @@ pub enum Means<'k> {
 impl Meaning {
     /// Lends it, with the types by which the numbers of types go.
     pub fn means<'k>(&'k self, types: &'k NamedTypes) -> Means<'k>
+        requires typed { IsTyped (length types.now) self.now }
         ensures value { means_of result ≡ meaning_of types.now self.now }
         ensures types { IsOfTypes types.now result }
     {

@@ -1,10 +1,10 @@
-use Rattle.std.proofs.Common.{ap, sym, subst, ◌∙◌, IfSome, refl, Some, rules}
+use Rattle.std.proofs.Common.{ap, sym, subst, ◌∙◌, IfSome, refl, Some, length, rules}
 use Rattle.std.proofs.lemmas.Option.{slice_get_read}
 use Rattle.sz_scope.specs.Blocks.{found}
 use Rattle.sz_scope.specs.Sight.{seen_blocks}
 use Rattle.sz_check_rules.specs.Names.{meaning_of}
 use Rattle.sz_check_names.specs.Knowledge.{maybe_means_of, IsOfTypes, blocks_for}
-use Rattle.sz_check_names.proofs.KeepingLemmas.{find_is, found_placed, place_within, place_means, record_means, types_are}
+use Rattle.sz_check_names.proofs.KeepingLemmas.{find_is, found_placed, place_within, place_means, record_means, typed_at, types_are}
 use Rattle.sz_check_names.proofs.known.Known.find.Goals as goal
 
 -- nothing that is seen has the name
@@ -28,6 +28,18 @@ index-requires c =
     c.in_ok-found.found.now c.in_ok-found.ensures.value in
     let within = place_within k.types k.meanings.items c.in_ok-found.found.now h c.in-Some.place (sym c.place_of.ensures.value ∙ c.in-Some.is) in
     search (rules, within)
+
+-- a type that is kept there is one of those that are known
+pub means-requires : goal.means-requires
+means-requires c =
+    let k = c.self.inside in
+    let h = found_placed k.types k.meanings.items c.as_str.result.now c.sight_for-sight.result k.scopes k.sight c.self.invariant
+    c.in_ok-found.found.now c.in_ok-found.ensures.value in
+    let placed = sym c.place_of.ensures.value ∙ c.in-Some.is in
+    let within = place_within k.types k.meanings.items c.in_ok-found.found.now h c.in-Some.place placed in
+    let read = slice_get_read k.meanings.items _ c.in-Some.place c.index.result.now refl within c.index.ensures in
+    let typed = typed_at (length k.types) k.meanings.items (Some c.in-Some.place) c.index.result.now c.self.invariant.typed read in
+    search (rules, typed)
 
 -- and what is kept there is what the name stands for
 pub returns-in-Some : goal.returns-in-Some
