@@ -345,7 +345,7 @@ fn to_map(alloc: Global, value: &Value) -> Result<Slot, NoMemory> {
 
 #[tactic(auto, using(sz_builtin::proofs::ForCallers::plain_tuple))]
 fn to_tuple(alloc: Global, value: &Value) -> Result<Slot, NoMemory> {
-    let ty = Ty::Tuple(Fields::new(alloc));
+    let ty = Ty::Tuple(Fields::new(alloc)?);
     let made = convert(alloc, value, &ty);
     drop(ty);
     made

@@ -101,7 +101,7 @@ fn field(
     code: Encoding,
 ) -> Result<Fields, NoMemory> {
     let name = Text::from_str(alloc, name)?;
-    let mut fields = Fields::new(alloc);
+    let mut fields = Fields::new(alloc)?;
     fields.push(Field {
         name,
         ty,
@@ -115,9 +115,9 @@ fn field(
 fn numbers(alloc: Global, names: &[&str]) -> Result<Fields, NoMemory> {
     let mut fields = Vec::new(alloc);
     for name in names {
-        fields.append(&mut field(alloc, name, Ty::Int, 0, Encoding::Plain)?.into_vec())?;
+        fields.append(&mut field(alloc, name, Ty::Int, 0, Encoding::Plain)?.into_vec()?)?;
     }
-    Ok(Fields::from_vec(fields))
+    Fields::from_vec(alloc, fields)
 }
 
 fn type_of(alloc: Global, given: Given) -> Result<Ty, NoMemory> {
@@ -208,11 +208,24 @@ fn text_is_given_back(alloc: Global) -> Result<bool, NoMemory> {
     Ok(is_made && text.as_str() == "größe")
 }
 
-// Whether fields are pushed, copied and given back.
+// Whether fields are pushed, copied and given back, while a copy shares them.
 fn fields_are_given_back(alloc: Global) -> Result<bool, NoMemory> {
     let fields = numbers(alloc, &["x", "y"])?;
-    let fields = Fields::from_vec(copy_fields(alloc, &fields)?.into_vec());
-    Ok(are_x_and_y(fields.as_slice()))
+    let copies = Fields::from_vec(alloc, copy_fields(&fields)?.into_vec()?)?;
+    Ok(are_x_and_y(copies.as_slice()) && are_x_and_y(fields.as_slice()))
+}
+
+// Whether a field that is pushed to a copy is in the copy alone.
+fn fields_grow_apart(alloc: Global) -> Result<bool, NoMemory> {
+    let fields = numbers(alloc, &["x", "y"])?;
+    let mut copies = copy_fields(&fields)?;
+    copies.push(Field {
+        name: Text::from_str(alloc, "z")?,
+        ty: Ty::Int,
+        number: 0,
+        code: Encoding::Plain,
+    })?;
+    Ok(are_x_and_y(fields.as_slice()) && copies.len() == 3)
 }
 
 fn are_x_and_y(fields: &[Field]) -> bool {
@@ -285,6 +298,7 @@ fn texts_fields_types_and_declarations_are_made_and_given_back(rt: HostRuntime) 
     let found = [
         text_is_given_back(rt.alloc()),
         fields_are_given_back(rt.alloc()),
+        fields_grow_apart(rt.alloc()),
         types_are_given_back(rt.alloc()),
         tables_are_given_back(rt.alloc()),
     ];

@@ -216,5 +216,5 @@ fn write_out_fields(
             code: field.code,
         })?;
     }
-    Ok(Fields::from_vec(stored))
+    Ok(Fields::from_vec(alloc, stored)?)
 }

@@ -143,7 +143,7 @@ fn two_lines(alloc: Global, instr: Instr) -> Result<Lines, NoMemory> {
 fn number_and_message(alloc: Global) -> Result<Tys, NoMemory> {
     let mut types = Tys::new(alloc);
     types.push(Ty::Int)?;
-    types.push(Ty::Proto(Fields::new(alloc)))?;
+    types.push(Ty::Proto(Fields::new(alloc)?))?;
     Ok(types)
 }
 

@@ -20,7 +20,7 @@ fn groups(alloc: Global, count: u32) -> Result<Vec<u8>, Fail> {
 
 // The message type with a field 1 of this type.
 fn around(alloc: Global, ty: Ty) -> Result<Ty, Fail> {
-    let mut fields = Fields::new(alloc);
+    let mut fields = Fields::new(alloc)?;
     fields.push(Field {
         name: Text::from_str(alloc, "field")?,
         ty,
@@ -32,7 +32,7 @@ fn around(alloc: Global, ty: Ty) -> Result<Ty, Fail> {
 
 // A message type of so many levels, and one more below.
 fn nested_type(alloc: Global, levels: u32) -> Result<Ty, Fail> {
-    let mut ty = Ty::Proto(Fields::new(alloc));
+    let mut ty = Ty::Proto(Fields::new(alloc)?);
     for _ in 0..levels {
         ty = around(alloc, ty)?;
     }

@@ -15,13 +15,13 @@ struct Open {
 }
 
 impl Open {
-    fn new(alloc: Global) -> Open {
-        Open {
-            fields: Fields::new(alloc),
+    fn new(alloc: Global) -> Result<Open, Fail> {
+        Ok(Open {
+            fields: Fields::new(alloc)?,
             number: 0,
             code: Encoding::Plain,
             is_array: false,
-        }
+        })
     }
 
     // Adds the field, whose elements or whose value have this type.
@@ -63,10 +63,10 @@ impl Open {
 /// The message type with these fields.
 pub(crate) fn type_of(alloc: Global, text: &str) -> Result<Ty, Fail> {
     let mut outer = Vec::new(alloc);
-    let mut inner = Open::new(alloc);
+    let mut inner = Open::new(alloc)?;
     for word in text.split_whitespace() {
         match word {
-            "{" => outer.push(mem::replace(&mut inner, Open::new(alloc)))?,
+            "{" => outer.push(mem::replace(&mut inner, Open::new(alloc)?))?,
             "}" => {
                 let around = outer.pop().ok_or("a brace too many")?;
                 let message = mem::replace(&mut inner, around);

@@ -26,8 +26,8 @@ fn type_of(alloc: Global, made: &Made, name: &str) -> Result<Ty, NoMemory>
     ensures value { IfOk result (λ ty. seen ty ≡ type_in (λ m. seen_found (get_by_text made.now m)) name.now) }
 {
     match made.get(name) {
-        Some(fields) => Ok(Ty::Proto(copy_fields(alloc, fields)?)),
-        None => Ok(Ty::Proto(Fields::new(alloc))),
+        Some(fields) => Ok(Ty::Proto(copy_fields(fields)?)),
+        None => Ok(Ty::Proto(Fields::new(alloc)?)),
     }
 }
 
@@ -97,7 +97,7 @@ fn put_first(alloc: Global, made: &mut Made, owner: &str, field: Field) -> Resul
     ensures ok { OnOk result ((m : List ℕ) → seen_found (get_by_text made.new m)
         ≡ (if bytes_eq owner.now m then seen_field field ∷ [] else seen_found (get_by_text made.old m))) }
 {
-    let mut fields = Fields::new(alloc);
+    let mut fields = Fields::new(alloc)?;
     fields.push(field)?;
     made.insert(String::from_str(alloc, owner)?, fields)?;
     Ok(())

@@ -97,7 +97,7 @@ fn read_tuple_type(alloc: Global, levels: u32, flat: &[u8]) -> Result<(Ty, &[u8]
     ensures value { Reads (λ r. (seen r.0, r.1.now)) (tuple_type_at (type_at levels) flat.now) result }
 {
     let (fields, rest) = read_fields(alloc, false, levels, flat)?;
-    Ok((Ty::Tuple(Fields::from_vec(fields)), rest))
+    Ok((Ty::Tuple(Fields::from_vec(alloc, fields)?), rest))
 }
 
 // A proto type, behind the byte of its kind.
@@ -106,7 +106,7 @@ fn read_proto_type(alloc: Global, levels: u32, flat: &[u8]) -> Result<(Ty, &[u8]
     ensures value { Reads (λ r. (seen r.0, r.1.now)) (proto_type_at (type_at levels) flat.now) result }
 {
     let (fields, rest) = read_fields(alloc, true, levels, flat)?;
-    Ok((Ty::Proto(Fields::from_vec(fields)), rest))
+    Ok((Ty::Proto(Fields::from_vec(alloc, fields)?), rest))
 }
 
 // The fields in front, behind their number; those of a message have numbers.

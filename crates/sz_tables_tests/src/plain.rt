@@ -146,7 +146,7 @@ fn number_field(alloc: Global, name: &str) -> Result<Field, NoMemory>
 fn pair_fields(alloc: Global) -> Result<Fields, NoMemory>
     ensures value { IfOk result (λ fields. seen_fields fields ≡ pair_fields) }
 {
-    let mut fields = Fields::new(alloc);
+    let mut fields = Fields::new(alloc)?;
     fields.push(number_field(alloc, "a")?)?;
     fields.push(number_field(alloc, "b")?)?;
     Ok(fields)

@@ -162,16 +162,18 @@ fn lines() -> &'static [Line] {
 
 // A table of numbers, or of tuples.
 fn table(alloc: Global, of_tuples: bool) -> Result<TableDecl, NoMemory> {
+    let name = Text::from_str(alloc, "t")?;
+    let element = if of_tuples {
+        Ty::Tuple(Fields::new(alloc)?)
+    } else {
+        Ty::Int
+    };
     Ok(TableDecl {
-        name: Text::from_str(alloc, "t")?,
+        name,
         kind: TableKind::Sum,
         limit: 0,
         indexes: Tys::new(alloc),
-        element: if of_tuples {
-            Ty::Tuple(Fields::new(alloc))
-        } else {
-            Ty::Int
-        },
+        element,
         weight: None,
     })
 }

@@ -18,10 +18,10 @@ field_folds : (f : Field) → fold-Field Shape FieldShape (List FieldShape) ty_s
 field_folds = fold_out-Field Shape FieldShape (List FieldShape) ty_step field_step fields_step
 
 -- fields are seen as the list of what is seen of each
-pub fields_seen : (fs : Fields) → seen_fields fs ≡ map seen_field (out-Fields fs).fields.items
+pub fields_seen : (fs : Fields) → seen_fields fs ≡ map seen_field (out-Fields fs).fields.value.items
 fields_seen fs =
     fold_out-Fields Shape FieldShape (List FieldShape) ty_step field_step fields_step fs
-    ∙ (λ i. map (λ f. field_folds f i) (out-Fields fs).fields.items)
+    ∙ (λ i. map (λ f. field_folds f i) (out-Fields fs).fields.value.items)
 
 -- a type is seen by its one level
 levels : (x : Ty-F Ty Field Fields) → seen (roll-Ty x) ≡ ty_step (map-Ty Ty Field Fields Shape FieldShape (List FieldShape) seen

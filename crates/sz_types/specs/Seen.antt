@@ -22,7 +22,7 @@ abbrev pub field_step : Field-F Shape FieldShape (List FieldShape) → FieldShap
 field_step f = field f.name f.ty f.number f.code
 
 abbrev pub fields_step : Fields-F Shape FieldShape (List FieldShape) → List FieldShape
-fields_step fields = fields.fields.items
+fields_step fields = fields.fields.value.items
 
 -- the plain data of a type
 abbrev pub seen : Ty → Shape

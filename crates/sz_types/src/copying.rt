@@ -1,5 +1,5 @@
 //! Copies of types, fields and declarations.
-ghost use Rattle.std.specs.Prelude.{◌≡◌, IfOk};
+ghost use Rattle.std.specs.Prelude.{◌≡◌, map, IfOk};
 ghost use Rattle.std.specs.Option.{option_map};
 ghost use Rattle.sz_types.specs.Seen.{seen, seen_field, seen_fields};
 ghost use Rattle.sz_types.specs.SeenTables.{seen_table};
@@ -10,9 +10,9 @@ use crate::text::Text;
 use crate::ty::{Field, Fields, Ty};
 use crate::tys::Tys;
 use std::alloc::Global;
+use std::sync::Arc;
 
-/// A copy of the type.
-#[cycle(copy)]
+/// A copy of the type, which shares the fields in it.
 pub fn copy_ty(alloc: Global, ty: &Ty) -> Result<Ty, NoMemory>
     ensures value { IfOk result (λ made. seen made ≡ seen ty.now) }
 {
@@ -28,25 +28,32 @@ pub fn copy_ty(alloc: Global, ty: &Ty) -> Result<Ty, NoMemory>
             let value = Box::new(alloc, copy_ty(alloc, value)?)?;
             Ok(Ty::Map(key, value))
         }
-        Ty::Tuple(fields) => Ok(Ty::Tuple(copy_fields(alloc, fields)?)),
-        Ty::Proto(fields) => Ok(Ty::Proto(copy_fields(alloc, fields)?)),
+        Ty::Tuple(fields) => Ok(Ty::Tuple(copy_fields(fields)?)),
+        Ty::Proto(fields) => Ok(Ty::Proto(copy_fields(fields)?)),
     }
 }
 
-/// A copy of the fields.
-#[cycle(copy)]
-pub fn copy_fields(alloc: Global, fields: &Fields) -> Result<Fields, NoMemory>
+/// A copy of the fields, which shares them and takes no memory.
+pub fn copy_fields(fields: &Fields) -> Result<Fields, NoMemory>
     ensures value { IfOk result (λ made. seen_fields made ≡ seen_fields fields.now) }
 {
-    let mut made = Vec::with_capacity(alloc, fields.fields.len())?;
-    for field in &fields.fields {
+    Ok(Fields {
+        fields: Arc::try_clone(&fields.fields)?,
+    })
+}
+
+// A copy of each field.
+pub(crate) fn copy_list(alloc: Global, fields: &[Field]) -> Result<Vec<Field>, NoMemory>
+    ensures value { IfOk result (λ made. map seen_field made.items ≡ map seen_field fields.now) }
+{
+    let mut made = Vec::with_capacity(alloc, fields.len())?;
+    for field in fields {
         made.push(copy_field(alloc, field)?)?;
     }
-    Ok(Fields { fields: made })
+    Ok(made)
 }
 
 // A copy of the field.
-#[cycle(copy)]
 fn copy_field(alloc: Global, field: &Field) -> Result<Field, NoMemory>
     ensures value { IfOk result (λ made. seen_field made ≡ seen_field field.now) }
 {

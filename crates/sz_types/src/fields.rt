@@ -1,26 +1,28 @@
 //! The calls of a list of fields.
-ghost use Rattle.std.specs.Prelude.{◌≡◌, ◌==◌, ◌<◌, ◌++◌, ◌∷◌, [], length, map, slice_get, OnOk, OnErr, Some};
+ghost use Rattle.std.specs.Prelude.{◌≡◌, ◌==◌, ◌<◌, ◌++◌, ◌∷◌, [], length, map, slice_get, IfOk, OnOk, OnErr, Some};
 ghost use Rattle.sz_types.specs.Seen.{seen_field, seen_fields};
 
 use crate::NoMemory;
+use crate::copying::copy_list;
 use crate::ty::{Field, Fields};
 use std::alloc::Global;
+use std::sync::Arc;
 
 impl Fields {
-    /// No fields, which takes no memory. They keep the allocator for their calls.
-    pub fn new(alloc: Global) -> Fields
-        ensures value { seen_fields result ≡ [] }
+    /// No fields. They keep the allocator for their calls.
+    pub fn new(alloc: Global) -> Result<Fields, NoMemory>
+        ensures value { IfOk result (λ made. seen_fields made ≡ []) }
     {
-        Fields {
-            fields: Vec::new(alloc),
-        }
+        Fields::from_vec(alloc, Vec::new(alloc))
     }
 
-    /// Takes over the fields, and takes no memory.
-    pub fn from_vec(fields: Vec<Field>) -> Fields
-        ensures value { seen_fields result ≡ map seen_field fields.items }
+    /// Takes over the fields.
+    pub fn from_vec(alloc: Global, fields: Vec<Field>) -> Result<Fields, NoMemory>
+        ensures value { IfOk result (λ made. seen_fields made ≡ map seen_field fields.items) }
     {
-        Fields { fields }
+        Ok(Fields {
+            fields: Arc::new(alloc, fields)?,
+        })
     }
 
     /// The fields, in order.
@@ -49,15 +51,23 @@ impl Fields {
         requires within { index < length (seen_fields self.now) }
         ensures value { slice_get (seen_fields self.now) index ≡ Some (seen_field result.now) }
     {
-        &self.fields[index]
+        &self.as_slice()[index]
     }
 
-    /// Appends the field. Where there is no memory the field is dropped.
+    /// Appends the field, to a copy of the list where it is shared. Where there is no memory the field is dropped.
     pub fn push(&mut self, field: Field) -> Result<(), NoMemory>
         ensures ok { OnOk result (seen_fields self.new ≡ seen_fields self.old ++ seen_field field ∷ []) }
         ensures err { OnErr result (seen_fields self.new ≡ seen_fields self.old) }
     {
-        self.fields.push(field)?;
+        match Arc::get_mut(&mut self.fields) {
+            Some(fields) => fields.push(field)?,
+            None => {
+                let alloc = *self.fields.allocator();
+                let mut fields = copy_list(alloc, self.fields.as_slice())?;
+                fields.push(field)?;
+                self.fields = Arc::new(alloc, fields)?;
+            }
+        }
         Ok(())
     }
 }

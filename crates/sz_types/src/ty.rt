@@ -1,9 +1,12 @@
 //! Types, and the fields inside them.
-ghost use Rattle.std.specs.Prelude.{◌≡◌, map};
+ghost use Rattle.std.specs.Prelude.{◌≡◌, map, IfOk};
 ghost use Rattle.sz_types.specs.Seen.{seen_field, seen_fields};
 
+use crate::NoMemory;
+use crate::copying::copy_list;
 use crate::encoding::Encoding;
 use crate::text::Text;
+use std::sync::Arc;
 
 /// A type of a program, with all names written out.
 ///
@@ -65,13 +68,14 @@ impl Drop for Field {
     }
 }
 
-/// The fields of a tuple or a proto type, in order. Places are counted from 0.
+/// The fields of a tuple or a proto type, in order. Places are counted from 0. A copy shares the list with what it was
+/// copied from, so it takes no memory.
 ///
 /// Contracts see the list of their plain data.
 #[cycle(ty)]
 #[derive(Debug)]
 pub struct Fields {
-    pub(crate) fields: Vec<Field>,
+    pub(crate) fields: Arc<Vec<Field>>,
 }
 
 impl Drop for Fields {
@@ -82,11 +86,14 @@ impl Drop for Fields {
 }
 
 impl Fields {
-    /// Gives the fields back, and takes no memory.
-    pub fn into_vec(self) -> Vec<Field>
-        ensures value { map seen_field result.items ≡ seen_fields self }
+    /// Gives the fields back: a copy of each, where they are shared, and else the list itself.
+    pub fn into_vec(self) -> Result<Vec<Field>, NoMemory>
+        ensures value { IfOk result (λ fields. map seen_field fields.items ≡ seen_fields self) }
     {
         let Self { fields } = self;
-        fields
+        match Arc::try_unwrap(fields) {
+            Ok(fields) => Ok(fields),
+            Err(shared) => copy_list(*shared.allocator(), shared.as_slice()),
+        }
     }
 }

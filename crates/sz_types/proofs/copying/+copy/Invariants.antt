@@ -1,7 +1,0 @@
--- What is copied so far is the front.
-use Rattle.std.proofs.Common.{◌≡◌, map, take}
-use Rattle.sz_types.specs.Seen.{seen_field}
-use Rattle.sz_types.proofs.copying.+copy.Given as goal
-
-abbrev pub invariant-copy_fields-loop-field : goal.invariant-copy_fields-loop-field
-invariant-copy_fields-loop-field l = map seen_field l.made.items ≡ map seen_field (take l.field-index l.field-items)
