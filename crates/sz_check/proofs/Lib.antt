@@ -4,5 +4,4 @@ mod FoldLemmas
 mod WhenLemmas
 mod FunctionLemmas
 mod ProgramLemmas
-mod UnnamedLemmas
 mod RoundLemmas

@@ -13,7 +13,6 @@ mod stmt;
 mod table;
 mod target;
 mod top;
-mod unnamed;
 mod with_types;
 
 pub use error::CheckError;

@@ -18,21 +18,20 @@ ghost use Rattle.sz_check.specs.Top.{core_seen};
 use crate::error::CheckError;
 use crate::program::judge_all;
 use crate::top::Top;
-use crate::unnamed::unnamed;
 use std::alloc::Global;
 use sz_check_laws::{judged_programs_are_sound, types_may_be_written_first};
-use sz_check_names::{JudgeError, Known};
+use sz_check_names::{JudgeError, Known, Written};
 use sz_core::{Item, Program};
 use sz_protofile_types::{NamedType, NamedTypes};
 use sz_tree::{Name, Tree};
-use sz_types::{Place, Text, Tys};
+use sz_types::{Place, Text, Tys, copy_ty};
 
 // A type under its name, which the innermost block doesn't have. No refusal can name its place.
 fn add_type(alloc: Global, known: &mut Known, named: &NamedType) -> Result<(), JudgeError>
     requires free { IsFalse (has named.now.name known.old.innermost) }
     ensures value { Judges (λ _. scene_of known.new) result (good (with_named_type named.now known.old)) }
 {
-    let written = unnamed(alloc, &named.ty)?;
+    let written = Written::Whole(copy_ty(alloc, &named.ty)?);
     let text = Text::from_str(alloc, named.name.as_str())?;
     let name = Name::new(Place { line: 1, column: 1 }, text);
     known.declare_type(alloc, &name, written)

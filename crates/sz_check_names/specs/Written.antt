@@ -1,6 +1,7 @@
 -- Types as they are written, whose names stand for types that were named before.
 use Rattle.std.specs.Prelude.{ℕ, List, [], ◌∷◌, ◌++◌, slice_get, unwrap_or}
 use Rattle.sz_types.specs.Data.{Shape, FieldShape, FieldShapes, no_fields, with_field, field}
+use Rattle.sz_types.specs.Seen.{seen}
 use Rattle.sz_check_rules.specs.JudgingTypes.{shape_of}
 use Rattle.sz_check_names.specs.declared.written.Written.{Written, Row_of-WrittenField, end_of-WrittenField, more_of-WrittenField}
 use Rattle.sz_check_names.specs.declared.written.Written.TheVariants as written
@@ -20,6 +21,7 @@ module _ (types : List Shape) where
     shape_in (written.Tuple' s fs) = Shape.tuple (fields_in_row fs)
     shape_in (written.Proto' s fs) = Shape.proto (fields_in_row fs)
     shape_in (written.Named n) = type_at types n
+    shape_in (written.Whole t) = seen t
 
     -- the fields of a row
     pub fields_in_row : {m : _} → Row_of-WrittenField m → FieldShapes

@@ -1,12 +1,13 @@
 //! What fields of a message a type makes.
 ghost use Rattle.std.specs.Prelude.{◌≡◌, Bool};
+ghost use Rattle.sz_types.specs.Seen.{seen};
 ghost use Rattle.sz_check_rules.specs.JudgingTypes.{shape_of};
 ghost use Rattle.sz_check_names.specs.Sorts.{as_many, sort_at, is_field, encodes};
 ghost use Rattle.sz_check_names.specs.Written.{shape_in, shapes_of};
 
 use crate::written::Written;
 use sz_tree::BasicType;
-use sz_types::Encoding;
+use sz_types::{Encoding, Ty};
 
 // What a field of a type holds: one number, one other thing, as many of these as there are, or what no field can hold.
 #[derive(Clone, Copy)]
@@ -58,6 +59,24 @@ fn basic_sort(basic: BasicType) -> Sort
     }
 }
 
+// What a field holds of a type that is written out, or of the elements of one.
+fn sort_of_whole(ty: &Ty, inside: bool) -> Sort
+    ensures value { result ≡ sort_at inside (seen ty.now) }
+{
+    match ty {
+        Ty::Int | Ty::Time => Sort::Number,
+        Ty::Bool | Ty::Str | Ty::Bytes | Ty::Proto(_) => Sort::Other,
+        Ty::Map(_, _) | Ty::Tuple(_) => Sort::Neither,
+        Ty::Array(element) => {
+            if inside {
+                Sort::Neither
+            } else {
+                sort_of_whole(element, true).many()
+            }
+        }
+    }
+}
+
 // What a field holds of a type that is written with these types, or of the elements of one.
 pub fn sort_of(written: &Written, types: &[Written], inside: bool) -> Sort
     ensures value { result ≡ sort_at inside (shape_in (shapes_of types.now) written.now) }
@@ -80,5 +99,6 @@ pub fn sort_of(written: &Written, types: &[Written], inside: bool) -> Sort
                 None => Sort::Other,
             }
         }
+        Written::Whole(ty) => sort_of_whole(ty, inside),
     }
 }

@@ -1,6 +1,7 @@
-//! Named types, each kept as it is written: a name in it is the number of the type that it stands for.
+//! Named types, in which a name is the number of the type that it stands for.
 //!
-//! A type that is built from named types is so as long as its own text, however high it is with all names written out.
+//! A named type is kept whole where it is soon made, and else as it is written. So all of them together take no more than their texts,
+//! but for a few boxes at each name, however large they are with all names written out.
 ghost use Rattle.std.specs.Prelude.{◌≡◌, ◌++◌, ◌∷◌, [], length, map, false, IfOk, OnErr};
 ghost use Rattle.sz_types.specs.Seen.{seen, seen_fields};
 ghost use Rattle.sz_check_rules.specs.JudgingTypes.{shape_of};
@@ -13,7 +14,7 @@ use crate::waiting::beside;
 use std::alloc::{AllocError, Global};
 use std::marker::Model;
 use sz_tree::BasicType;
-use sz_types::{Encoding, Field, Fields, Text, Ty};
+use sz_types::{Encoding, Field, Fields, Text, Ty, copy_ty};
 
 /// The type that a word stands for.
 pub fn basic_type(basic: BasicType) -> Ty
@@ -38,6 +39,8 @@ pub enum Written {
     Proto(Vec<WrittenField>),
     /// The named type with this number, counted from 0 in the order of the program.
     Named(u32),
+    /// A type with all names in it written out.
+    Whole(Ty),
 }
 
 impl Drop for Written {
@@ -49,7 +52,8 @@ impl Drop for Written {
             | Written::Map(_, _)
             | Written::Tuple(_)
             | Written::Proto(_)
-            | Written::Named(_) => {}
+            | Written::Named(_)
+            | Written::Whole(_) => {}
         }
     }
 }
@@ -123,14 +127,15 @@ impl NamedTypes {
         self.stored.len()
     }
 
-    /// One type more, with its number.
+    /// One type more, with its number. It is made here, if it is soon made.
     pub fn add(&mut self, written: Written) -> Result<u32, AllocError>
         ensures number { IfOk result (λ number. number ≡ length self.old) }
         ensures ok { IfOk result (λ _. self.new ≡ self.old ++ shape_in self.old written ∷ []) }
         ensures err { OnErr result (self.new ≡ self.old) }
     {
         let (number, written) = beside(small(self.stored.len()), written)?;
-        self.stored.push(written)?;
+        let kept = as_kept(*self.stored.allocator(), written, self.stored.as_slice())?;
+        self.stored.push(kept)?;
         Ok(number)
     }
 
@@ -141,7 +146,7 @@ impl NamedTypes {
         sort_of(written, self.stored.as_slice(), false)
     }
 
-    /// The type, with all names written out.
+    /// The type, with all names written out. A name of a type that is kept whole takes one copy of it.
     pub fn write_out(&self, alloc: Global, written: &Written) -> Result<Ty, AllocError>
         ensures value { IfOk result (λ ty. seen ty ≡ shape_in self.now written.now) }
     {
@@ -156,6 +161,70 @@ impl NamedType<'_> {
     {
         self.types.write_out(alloc, &Written::Named(self.number))
     }
+}
+
+// A type is soon copied where its copy makes fewer boxes than this. It makes one for each array and two for each map, down to the
+// tuples and messages, whose fields copies share. A map of a named map to itself has twice the boxes of that one, so that without a
+// bound the last of a hundred short declarations couldn't be made at all.
+const MANY_BOXES: u32 = 16;
+
+// How many of these boxes are left after a copy of the type.
+fn boxes_left(ty: &Ty, boxes: u32) -> u32 {
+    if boxes == 0 {
+        return 0;
+    }
+    match ty {
+        Ty::Array(element) => boxes_left(element, boxes - 1),
+        Ty::Map(key, value) => boxes_left(value, boxes_left(key, boxes - 1).saturating_sub(1)),
+        _ => boxes,
+    }
+}
+
+// Whether the named type is kept whole, and is soon copied.
+fn is_soon_copied(named: Option<&Written>) -> bool {
+    match named {
+        Some(Written::Whole(ty)) => boxes_left(ty, MANY_BOXES) > 0,
+        _ => false,
+    }
+}
+
+// Whether each name in it stands for a type that is soon copied, so that it is made in a few steps for each word of its text.
+#[cycle(soon)]
+fn is_soon_made(written: &Written, types: &[Written]) -> bool {
+    match written {
+        Written::Basic(_) => true,
+        Written::Array(element) => is_soon_made(element, types),
+        Written::Map(key, value) => is_soon_made(key, types) && is_soon_made(value, types),
+        Written::Tuple(fields) | Written::Proto(fields) => {
+            are_soon_made(fields.as_slice(), types)
+        }
+        Written::Named(number) => is_soon_copied(types.get(*number as usize)),
+        // It is made already.
+        Written::Whole(_) => false,
+    }
+}
+
+// Whether the types of all fields are soon made.
+#[cycle(soon)]
+fn are_soon_made(fields: &[WrittenField], types: &[Written]) -> bool {
+    for field in fields {
+        if !is_soon_made(&field.ty, types) {
+            return false;
+        }
+    }
+    true
+}
+
+// The type as it is kept: whole, where it is soon made.
+fn as_kept(alloc: Global, written: Written, types: &[Written]) -> Result<Written, AllocError>
+    ensures value { IfOk result (λ kept. shape_in (shapes_of types.now) kept ≡ shape_in (shapes_of types.now) written) }
+{
+    if !is_soon_made(&written, types) {
+        return Ok(written);
+    }
+    let made = write_out(alloc, &written, types);
+    drop(written);
+    Ok(Written::Whole(made?))
 }
 
 // The type, with all names written out by these types. A named type is written with those before it alone.
@@ -181,6 +250,7 @@ fn write_out(alloc: Global, written: &Written, types: &[Written]) -> Result<Ty, 
                 None => Ok(Ty::Bool),
             }
         }
+        Written::Whole(ty) => copy_ty(alloc, ty),
     }
 }
 

@@ -9,7 +9,12 @@ returns-clause-number c =
     let same = subst (λ r. IfOk r (λ made. made ≡ c.len.result)) c.in_ok-number.ensures.ok.0 c.small.ensures.value in
     rw (← c.self.view_is) (search (rules, same, sym count))
 
+-- the type is kept as one of the same shape
 pub returns-clause-ok : goal.returns-clause-ok
 returns-clause-ok c =
-    ap shapes_of (rw (c.in_ok-number.ensures.ok.1) at c.in_ok-push.ensures.items) ∙ shapes_more c.self.inside.stored.items c.args.written
+    let stored = c.self.inside.stored.items in
+    let same = subst (λ types. shape_in (shapes_of types) c.in_ok-kept.kept ≡ shape_in (shapes_of types) c.in_ok-number.written) c.as_slice.ensures.value
+    c.in_ok-kept.ensures.value in
+    ap shapes_of c.in_ok-push.ensures.items ∙ shapes_more stored c.in_ok-kept.kept
+    ∙ ap (λ shape. shapes_of stored ++ shape ∷ []) (same ∙ ap (shape_in (shapes_of stored)) c.in_ok-number.ensures.ok.1)
     ∙ ap (λ types. types ++ shape_in types c.args.written ∷ []) c.self.view_is
