@@ -62,7 +62,7 @@ ruleset parts = (
   marked.the_sync,
   value_text.the_send,
   value_text.the_sync,
-  ty.crosses,
+  ty.crosses_both,
   value.crosses,
   instr.the_sync,
   line.the_sync,
@@ -204,10 +204,36 @@ module _ (κ : NamedLft) where
       ))
 
   members_send : IsSend (Members.the_row κ)
-  members_send = let u = table_sync in search (parts, index_map.the_send) depth 30 fits 4000
+  members_send =
+      view_send _ _ _ _ _ (declared_send (Members.TheInside.the_type κ) (
+        search parts depth 30,
+        (
+          search (parts, table_sync) depth 30,
+          (
+            search parts depth 30,
+            (
+              search parts depth 30,
+              (search (parts, index_map.the_send) depth 30, tt),
+            ),
+          ),
+        ),
+      ))
 
   members_sync : IsSync (Members.the_row κ)
-  members_sync = let u = table_sync in search (parts, index_map.the_sync) depth 30 fits 4000
+  members_sync =
+      view_sync _ _ _ _ _ (declared_sync (Members.TheInside.the_type κ) (
+        search parts depth 30,
+        (
+          search (parts, table_sync) depth 30,
+          (
+            search parts depth 30,
+            (
+              search parts depth 30,
+              (search (parts, index_map.the_sync) depth 30, tt),
+            ),
+          ),
+        ),
+      ))
 
   aggregate_send : IsSend (Aggregate.the_row κ)
   aggregate_send = let a = sum_send in let b = extreme_send in let c = members_send in search parts depth 30
