@@ -53,6 +53,8 @@ enum Row {
     Weighs(Given, u64),
     // Two texts, and whether each, and both as one, are ASCII.
     Ascii(&'static str, &'static str, [bool; 3]),
+    // A text that is the same value however it is made.
+    Alike(&'static str),
     // A text that is doubled so many times, and another one behind it, in which each character is found.
     Places(&'static str, u8, &'static str),
     // The part of an ASCII text between two places.
@@ -86,7 +88,24 @@ const ROWS: &[Row] = &[
     Row::Ascii("ab", "\u{e9}", [true, false, false]),
     Row::Ascii("\u{80}", "", [false, true, false]),
     Row::Ascii("aaaaaaaaa\u{e9}", "a", [false, true, false]),
+    Row::Ascii("0123456789abcde", "", [true, true, true]),
+    Row::Ascii("0123456789abcde", "f", [true, true, true]),
+    Row::Ascii("0123456789abcdef", "", [true, true, true]),
+    Row::Ascii("0123456789abcdef", "0", [true, true, true]),
+    Row::Ascii("0123456789abcdef0", "", [true, true, true]),
+    Row::Ascii("", "0123456789abcdef0", [true, true, true]),
+    Row::Ascii("0123456789abcd", "\u{e9}", [true, false, false]),
+    Row::Ascii("0123456789abcd\u{e9}", "f", [false, true, false]),
+    Row::Alike(""),
+    Row::Alike("0123456789abcde"),
+    Row::Alike("0123456789abcdef"),
+    Row::Alike("0123456789abcdef0"),
+    Row::Alike("0123456789abc\u{e9}"),
+    Row::Alike("0123456789abcd\u{e9}"),
+    Row::Alike("0123456789abcde\u{e9}"),
     Row::Places("", 1, "a"),
+    Row::Places("a", 4, "b"),
+    Row::Places("abc", 2, "abc"),
     Row::Places("a", 7, "\u{e9}"),
     Row::Places("\u{e9}", 6, "b"),
     Row::Places("\u{e9}", 7, "\u{20ac}"),
@@ -94,6 +113,10 @@ const ROWS: &[Row] = &[
     Row::Places("\u{1f600}b\u{e9}\u{e9}\u{e9}", 5, "\u{1f600}"),
     Row::Cut("abcd", 1, 3, "bc"),
     Row::Cut("abcd", 4, 4, ""),
+    Row::Cut("0123456789abcdef0", 0, 15, "0123456789abcde"),
+    Row::Cut("0123456789abcdef0", 1, 17, "123456789abcdef0"),
+    Row::Cut("0123456789abcdef01", 1, 18, "123456789abcdef01"),
+    Row::Cut("0123456789abcdef", 0, 16, "0123456789abcdef"),
     Row::Pairs(&[], &[]),
     Row::Pairs(&[(4, 1)], &[(4, 1)]),
     Row::Pairs(&[(1, 5), (2, 6), (3, 7)], &[(1, 5), (2, 6), (3, 7)]),
@@ -215,6 +238,45 @@ fn are_ascii(
         made.is_ascii(),
     ];
     Ok(found == [one, other, both, both])
+}
+
+// Whether a text is one value and weighs the same where it is taken over, copied, copied again, and joined of both its halves.
+fn is_alike(alloc: Global, text: &str) -> Result<bool, NoMemory> {
+    let taken = Text::from_string(String::from_str(alloc, text)?);
+    let made = Text::new(alloc, text)?;
+    let copied = taken.copy(alloc)?;
+    let again = copied.copy(alloc)?;
+    let joined = halves_joined(alloc, text)?;
+    let value = Value::Str(taken);
+    let found = [
+        weight(&value) == (text.len() as u64).wrapping_add(1),
+        is_text(&value, made),
+        is_text(&value, copied),
+        is_text(&value, again),
+        is_text(&value, joined),
+    ];
+    drop(value);
+    Ok(found == [true; 5])
+}
+
+// Whether a value is that of a text, which is dropped.
+fn is_text(value: &Value, text: Text) -> bool {
+    let other = Value::Str(text);
+    let same = are_same(value, &other);
+    drop(other);
+    same
+}
+
+// The text from the characters in its first seven bytes and those after them, if that is where a character ends.
+fn halves_joined(alloc: Global, text: &str) -> Result<Text, NoMemory> {
+    match text.split_at_checked(7) {
+        Some((first, second)) => Text::joined(
+            alloc,
+            &Text::new(alloc, first)?,
+            &Text::new(alloc, second)?,
+        ),
+        None => Text::new(alloc, text),
+    }
 }
 
 // Whether each character is found in a text that is doubled, in that with an end behind it, and in copies of this one.
@@ -547,6 +609,7 @@ fn holds(alloc: Global, row: &Row) -> Result<bool, NoMemory> {
     match row {
         Row::Weighs(given, wanted) => weighs(alloc, *given, *wanted),
         Row::Ascii(first, second, wanted) => are_ascii(alloc, first, second, *wanted),
+        Row::Alike(text) => is_alike(alloc, text),
         Row::Places(text, doublings, end) => finds_places(alloc, text, *doublings, end),
         Row::Cut(text, from, to, wanted) => is_cut(alloc, text, *from, *to, wanted),
         Row::Pairs(given, wanted) => gives(alloc, given, wanted),

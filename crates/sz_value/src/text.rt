@@ -1,13 +1,15 @@
 //! Texts inside values.
-ghost use Rattle.std.specs.Prelude.{◌≡◌, ◌==◌, ◌≤◌, ◌<◌, ◌^◌, ◌-◌, ◌++◌, length, take, drop, chars, string_bytes, false, IfOk, IfSome, IfNone, IsTrue, IsUtf8};
+ghost use Rattle.std.specs.Prelude.{◌≡◌, ◌==◌, ◌≤◌, ◌<◌, ◌^◌, ◌-◌, ◌++◌, length, take, drop, chars, string_bytes, true, false, IfOk, IfSome, IfNone, OnErr, IsTrue, IsUtf8};
 ghost use Rattle.sz_value.specs.Texts.{is_ascii};
 ghost use Rattle.sz_value.specs.Characters.{IsRestAfter};
 ghost use Rattle.sz_value.specs.Forms.{bytes_of, kept_as_ascii};
+ghost use Rattle.sz_value.specs.declared.form.TheConstants.{MOST};
 
 use crate::NoMemory;
 use crate::characters::{character_count, rest_after};
-use crate::form::Form;
+use crate::form::{Form, MOST};
 use crate::marked::MarkedText;
+use arrayvec::ArrayString;
 use std::alloc::Global;
 use std::marker::Model;
 
@@ -16,7 +18,7 @@ const SHORT: usize = 128;
 
 /// A text, which doesn't change once it is made. Its bytes are UTF-8, by its type. It remembers whether all of them are
 /// ASCII, and a long one of others where each 64th of its characters stands, so that places in a text are found without a walk
-/// over all that is before.
+/// over all that is before. Few bytes, all of which are ASCII, take no memory.
 ///
 /// Contracts see the list of its bytes.
 #[derive(Debug)]
@@ -51,20 +53,19 @@ impl Text {
         let form = if is_ascii(text.as_str()) {
             Form::Ascii(text)
         } else {
-            Form::Short(text)
+            Form::Unmarked(text)
         };
         Text { form }
     }
 
-    /// A copy of the text.
+    /// A copy of the text. One of few bytes, all of which are ASCII, takes no memory.
     pub fn new(alloc: Global, text: &str) -> Result<Text, NoMemory>
         ensures value { IfOk result (λ made. made ≡ text.now) }
     {
-        let string = String::from_str(alloc, text)?;
         let form = if is_ascii(text) {
-            Form::Ascii(string)
+            ascii(alloc, text)?
         } else {
-            other(alloc, string)?
+            other(alloc, String::from_str(alloc, text)?)?
         };
         Ok(Text { form })
     }
@@ -83,10 +84,10 @@ impl Text {
     pub fn joined(alloc: Global, first: &Text, second: &Text) -> Result<Text, NoMemory>
         ensures value { IfOk result (λ made. made ≡ first.now ++ second.now) }
     {
-        let string = joined(alloc, first.as_str(), second.as_str())?;
         let form = if first.is_ascii() && second.is_ascii() {
-            Form::Ascii(string)
+            ascii_joined(alloc, first.as_str(), second.as_str())?
         } else {
+            let string = joined(alloc, first.as_str(), second.as_str())?;
             begun(alloc, &first.form, string, second.as_str())?
         };
         Ok(Text { form })
@@ -100,9 +101,8 @@ impl Text {
         requires within { to ≤ length self.now }
         ensures value { IfOk result (λ made. made ≡ take (to - from) (drop from self.now)) }
     {
-        let string = String::from_str(alloc, &self.as_str()[from..to])?;
         Ok(Text {
-            form: Form::Ascii(string),
+            form: ascii(alloc, &self.as_str()[from..to])?,
         })
     }
 
@@ -118,7 +118,7 @@ impl Text {
     pub fn is_ascii(&self) -> bool
         ensures value { result ≡ is_ascii self.now }
     {
-        matches!(self.form, Form::Ascii(_))
+        matches!(self.form, Form::Ascii(_) | Form::Brief(_))
     }
 
     /// The number of bytes.
@@ -142,7 +142,8 @@ impl Text {
         ensures none { IfNone result (length (chars self.now) < count) }
     {
         match &self.form {
-            Form::Ascii(string) | Form::Short(string) => rest_after(string.as_str(), count),
+            Form::Ascii(string) | Form::Unmarked(string) => rest_after(string.as_str(), count),
+            Form::Brief(text) => rest_after(text.as_str(), count),
             Form::Marked(marked) => marked.rest_after(count),
         }
     }
@@ -153,7 +154,8 @@ impl Text {
         ensures small { result < 2 ^ 63 }
     {
         match &self.form {
-            Form::Ascii(string) | Form::Short(string) => character_count(string.as_str()),
+            Form::Ascii(string) | Form::Unmarked(string) => character_count(string.as_str()),
+            Form::Brief(text) => character_count(text.as_str()),
             Form::Marked(marked) => marked.character_count(),
         }
     }
@@ -165,9 +167,44 @@ fn text_of(form: &Form) -> &str
     ensures utf8 { IsUtf8 (bytes_of form.now) }
 {
     match form {
-        Form::Ascii(string) | Form::Short(string) => string.as_str(),
+        Form::Ascii(string) | Form::Unmarked(string) => string.as_str(),
+        Form::Brief(text) => text.as_str(),
         Form::Marked(marked) => marked.as_str(),
     }
+}
+
+// How an ASCII text is kept: in place where it has few bytes, without memory.
+fn ascii(alloc: Global, text: &str) -> Result<Form, NoMemory>
+    ensures value { IfOk result (λ made. bytes_of made ≡ text.now) }
+    ensures ascii { IfOk result (λ made. kept_as_ascii made ≡ true) }
+    ensures many { OnErr result (MOST < length text.now) }
+{
+    match ArrayString::from(text) {
+        Ok(brief) => Ok(Form::Brief(brief)),
+        Err(_) => Ok(Form::Ascii(String::from_str(alloc, text)?)),
+    }
+}
+
+// How two ASCII texts are kept as one.
+fn ascii_joined(alloc: Global, first: &str, second: &str) -> Result<Form, NoMemory>
+    ensures value { IfOk result (λ made. bytes_of made ≡ first.now ++ second.now) }
+    ensures ascii { IfOk result (λ made. kept_as_ascii made ≡ true) }
+    ensures many { OnErr result (MOST < length (first.now ++ second.now)) }
+{
+    match brief_joined(first, second) {
+        Some(brief) => Ok(Form::Brief(brief)),
+        None => Ok(Form::Ascii(joined(alloc, first, second)?)),
+    }
+}
+
+// Two texts as one in place, or none where there are too many bytes.
+fn brief_joined(first: &str, second: &str) -> Option<ArrayString<MOST>>
+    ensures value { IfSome result (λ made. made.bytes ≡ first.now ++ second.now) }
+    ensures many { IfNone result (MOST < length (first.now ++ second.now)) }
+{
+    let mut made = ArrayString::from(first).ok()?;
+    made.try_push_str(second).ok()?;
+    Some(made)
 }
 
 // How a text is kept that isn't ASCII.
@@ -176,7 +213,7 @@ fn other(alloc: Global, string: String) -> Result<Form, NoMemory>
     ensures other { IfOk result (λ made. kept_as_ascii made ≡ false) }
 {
     if string.len() <= SHORT {
-        return Ok(Form::Short(string));
+        return Ok(Form::Unmarked(string));
     }
     let marked = MarkedText::new(alloc, string)?;
     Ok(Form::Marked(Box::new(alloc, marked)?))
@@ -193,7 +230,7 @@ fn begun(alloc: Global, first: &Form, string: String, second: &str) -> Result<Fo
             let marked = first.begun(string, second)?;
             Ok(Form::Marked(Box::new(alloc, marked)?))
         }
-        Form::Ascii(_) | Form::Short(_) => other(alloc, string),
+        Form::Ascii(_) | Form::Brief(_) | Form::Unmarked(_) => other(alloc, string),
     }
 }
 
@@ -203,8 +240,9 @@ fn copy_form(alloc: Global, form: &Form) -> Result<Form, NoMemory>
     ensures ascii { IfOk result (λ made. kept_as_ascii made ≡ kept_as_ascii form.now) }
 {
     match form {
-        Form::Ascii(string) => Ok(Form::Ascii(String::from_str(alloc, string.as_str())?)),
-        Form::Short(string) => other(alloc, String::from_str(alloc, string.as_str())?),
+        Form::Ascii(string) => ascii(alloc, string.as_str()),
+        Form::Brief(text) => Ok(Form::Brief(*text)),
+        Form::Unmarked(string) => other(alloc, String::from_str(alloc, string.as_str())?),
         Form::Marked(marked) => Ok(Form::Marked(Box::new(alloc, marked.copy(alloc)?)?)),
     }
 }
