@@ -6,14 +6,14 @@ use Rattle.std.specs.Option.{option_map}
 use Rattle.std.proofs.lemmas.List.Elements.{filter_agree}
 use Rattle.std.proofs.lemmas.List.MinMax.{ranks_by}
 use Rattle.std.specs.List.{AllByRecursion, list_all}
-use Rattle.std.specs.List.Sorted.{IsStableBy, IsSortedBy, ties}
+use Rattle.std.specs.List.Sorted.{IsStableBy, IsSortedBy, IsStrictlySortedBy, ties}
 use Rattle.std.specs.Cmp.{IsStrictWeakOrder}
 use Rattle.std.specs.Map.{keys_of}
 use Rattle.std.specs.Ordering.{is_eq, is_lt, ordering_reverse, match_ordering}
 use Rattle.std.specs.declared.cmp.Ordering.{Ordering}
 use Rattle.std.specs.declared.cmp.Ordering.TheVariants.{Less, Equal, Greater}
 use Rattle.sz_value.specs.Data.{Datum, mapping, entries_of}
-use Rattle.sz_value.specs.Order.{compare}
+use Rattle.sz_value.specs.Order.{compare, KeysRise}
 use Rattle.sz_value.specs.Total.{compare_total, compare_ties}
 use Rattle.sz_value.specs.Seen.{seen, seen_pair}
 use Rattle.sz_value.specs.Weight.{weight_of, entries_weight}
@@ -22,6 +22,7 @@ use Rattle.sz_value.specs.declared.value.Value.{Value}
 use Rattle.sz_value.specs.declared.value.Value.TheVariants as values
 use Rattle.sz_value.specs.declared.value.Pair.{Pair}
 use Rattle.sz_value.proofs.GatherLemmas as gather
+use Rattle.sz_value.proofs.MapLemmas.{keys_rise}
 use Rattle.sz_builtin.specs.Views.{seen_view}
 use Rattle.sz_builtin.specs.declared.view.View.{View}
 use Rattle.sz_builtin.specs.declared.view.View.TheVariants as views
@@ -106,33 +107,15 @@ last_ones_are (p ∷ q ∷ ps) order = by (last_ones_are (q ∷ ps) order.1) (co
         rest ∙ sym (ap (λ l. with_pairs l ps) (ap (λ k. with_pair q.0 q.1 (with_pair k p.1 [])) same ∙ last_stands q.0 p.1 q.1 []))
     by rest Greater is = let e = sym (ap is_lt (turned q.0 p.0 ∙ ap ordering_reverse is)) ∙ order.0 in cc
 
--- what is less than all keys is less than those of the last ones
-less_than_last : (d : Datum) (qs : List (Datum × Datum)) → AllByRecursion (λ k. compare d k ≡ Less) (keys_of qs)
-    → AllByRecursion (λ k. compare d k ≡ Less) (keys_of (last_ones qs))
-less_than_last d [] all = tt
-less_than_last d (r ∷ qs) all = chosen (less_than_last d qs all.1) (is_followed (r ∷ qs))
-  where
-    chosen : AllByRecursion (λ k. compare d k ≡ Less) (keys_of (last_ones qs)) → (b : Bool)
-        → AllByRecursion (λ k. compare d k ≡ Less) (keys_of (cond b (last_ones qs) (r ∷ last_ones qs)))
-    chosen rest true = rest
-    chosen rest false = (all.0, rest)
+-- the keys of a map rise
+rise_all : (qs ps : List (Datum × Datum)) → KeysRise qs → KeysRise (with_pairs qs ps)
+rise_all qs [] rise = rise
+rise_all qs (p ∷ ps) rise = rise_all (with_pair p.0 p.1 qs) ps (keys_rise p.0 p.1 qs rise)
 
--- the pairs of a map are those of the map of them
-pub put_again : (ps : List (Datum × Datum)) → DontFall ps → with_pairs [] (last_ones ps) ≡ with_pairs [] ps
-put_again [] order = refl
-put_again (p ∷ []) order = refl
-put_again (p ∷ q ∷ ps) order = by (put_again (q ∷ ps) order.1) (compare p.0 q.0) refl
-  where
-    by : with_pairs [] (last_ones (q ∷ ps)) ≡ with_pairs [] (q ∷ ps) → (o : Ordering) → compare p.0 q.0 ≡ o
-        → with_pairs [] (cond (is_eq o) (last_ones (q ∷ ps)) (p ∷ last_ones (q ∷ ps))) ≡ with_pairs [] (p ∷ q ∷ ps)
-    by rest Equal is =
-        let same : p.0 ≡ q.0 = compare_ties p.0 q.0 is in
-        rest
-        ∙ sym (ap (λ l. with_pairs l ps) (ap (λ k. with_pair q.0 q.1 (with_pair k p.1 [])) same ∙ last_stands q.0 p.1 q.1 []))
-    by rest Less is =
-        let all = less_than_all p.0 q ps is order.1 in
-        under p (last_ones (q ∷ ps)) [] (less_than_last p.0 (q ∷ ps) all) ∙ ap (λ l. p ∷ l) rest ∙ sym (under p (q ∷ ps) [] all)
-    by rest Greater is = let e = sym (ap is_lt (turned q.0 p.0 ∙ ap ordering_reverse is)) ∙ order.0 in cc
+-- those of the last ones do
+pub last_rise : (ps : List (Datum × Datum)) → DontFall ps → KeysRise (last_ones ps)
+unfolding IsStrictlySortedBy
+last_rise ps order = subst KeysRise (sym (last_ones_are ps order)) (rise_all [] ps tt)
 
 -- the value that is looked at
 abbrev as_value : View → Value
@@ -207,15 +190,17 @@ dont_fall (p ∷ q ∷ ps) order =
         let later : suc k + 1 ≡ suc (k + 1) = omega arith in
         subst (λ m. key_less (get_or (p ∷ q ∷ ps) m d) (get_or (q ∷ ps) k d) ≡ false) later is
 
--- one pair more is put in
-pub one_put : (ps : List PairView) (i : ℕ) (p : PairView) → i < length ps → p ≡ get_or ps i p
-    → with_pair (seen_view p.key) (seen_view p.value) (with_pairs [] (seen_pair_views (take i ps))) ≡ with_pairs [] (seen_pair_views (take (i + 1) ps))
-one_put ps i p inside here =
-    let front = seen_pair_views (take i ps) in
-    sym (ap (λ l. with_pairs [] (seen_pair_views l)) (take_more ps i p inside)
-    ∙ ap (with_pairs []) (map-append seen_pair_view (take i ps) (get_or ps i p ∷ []))
-    ∙ ap (λ q. with_pairs [] (front ++ seen_pair_view q ∷ [])) (sym here)
-    ∙ gather.with_one_more [] front (seen_pair_view p))
+-- one pair more is copied
+pub one_copied : (ps : List PairView) (i : ℕ) (p : PairView) (made more : List Pair) (copy : Pair) → i < length ps → p ≡ get_or ps i p
+    → seen_pair copy ≡ seen_pair_view p → more ≡ made ++ copy ∷ [] → map seen_pair made ≡ seen_pair_views (take i ps)
+    → map seen_pair more ≡ seen_pair_views (take (i + 1) ps)
+one_copied ps i p made more copy inside here same is so_far =
+    ap (map seen_pair) is
+    ∙ map-append seen_pair made (copy ∷ [])
+    ∙ (λ t. so_far t ++ same t ∷ [])
+    ∙ ap (λ q. seen_pair_views (take i ps) ++ seen_pair_view q ∷ []) here
+    ∙ sym (map-append seen_pair_view (take i ps) (get_or ps i p ∷ []))
+    ∙ sym (ap seen_pair_views (take_more ps i p inside))
 
 module _ (ps : List PairView) (i : ℕ) (d : PairView) (inside : i < length ps) where
   ahead : (b : Bool) → is_followed (seen_pair_views (drop i ps)) ≡ b
@@ -256,7 +241,3 @@ module _ (xs : List Slot) (ps : List (Datum × Datum)) (order : DontFall ps) whe
   map_is all alike =
       ap (λ l. Some (mapping (entries_of l))) (last_ones_are ps order ∙ alike ∙ sym (put_by_turns [] (defined_of xs)))
       ∙ sym (ap (option_map (λ ds. mapping (entries_of (operations.with_pairs [] ds)))) (are_all xs all))
-
-  -- which are these again once they are put in
-  pub copies_are : with_pairs [] (last_ones ps) ≡ last_ones ps
-  copies_are = put_again ps order ∙ sym (last_ones_are ps order)

@@ -110,7 +110,7 @@ fn count_in(base: &View<'_>) -> usize
 // A copy of the key at a place of a map, if there is one.
 fn key_at(alloc: Global, base: &Cell<'_>, n: usize) -> Result<Option<Value>, NoMemory>
     ensures value { IfOk result (λ key. option_map seen key ≡ slice_get (keys_in base.now) n) }
-    ensures small { IfOk result (λ key. IfSome key (λ _. n + 1 < 2 ^ 64)) }
+    ensures small { IfOk result (λ key. IfSome key (λ _. n < 2 ^ 63)) }
 {
     match base.view() {
         Some(view) => key_in(alloc, &view, n),
@@ -122,7 +122,7 @@ fn key_at(alloc: Global, base: &Cell<'_>, n: usize) -> Result<Option<Value>, NoM
 #[tactic(auto, using(sz_builtin::proofs::Parts::pairs_back))]
 fn key_in(alloc: Global, base: &View<'_>, n: usize) -> Result<Option<Value>, NoMemory>
     ensures value { IfOk result (λ key. option_map seen key ≡ slice_get (keys_in (Some (seen_view base.now))) n) }
-    ensures small { IfOk result (λ key. IfSome key (λ _. n + 1 < 2 ^ 64)) }
+    ensures small { IfOk result (λ key. IfSome key (λ _. n < 2 ^ 63)) }
 {
     match base.kind() {
         Kind::Map(pairs) => nth_key(alloc, pairs, n),
@@ -134,7 +134,7 @@ fn key_in(alloc: Global, base: &View<'_>, n: usize) -> Result<Option<Value>, NoM
 #[tactic(auto, using(crate::proofs::CandidateLemmas::key_nth))]
 fn nth_key(alloc: Global, pairs: &Pairs, n: usize) -> Result<Option<Value>, NoMemory>
     ensures value { IfOk result (λ key. option_map seen key ≡ slice_get (keys_of pairs.now) n) }
-    ensures small { IfOk result (λ key. IfSome key (λ _. n + 1 < 2 ^ 64)) }
+    ensures small { IfOk result (λ key. IfSome key (λ _. n < 2 ^ 63)) }
 {
     match nth_lent(pairs, n) {
         Some(key) => Ok(Some(copy(alloc, key)?)),
@@ -145,7 +145,7 @@ fn nth_key(alloc: Global, pairs: &Pairs, n: usize) -> Result<Option<Value>, NoMe
 // The key at a place of pairs.
 fn nth_lent(pairs: &Pairs, n: usize) -> Option<&Value>
     ensures value { option_map (λ key. seen key.now) result ≡ option_map (λ p. p.0) (slice_get pairs.now n) }
-    ensures small { IfSome result (λ _. n + 1 < 2 ^ 64) }
+    ensures small { IfSome result (λ _. n < 2 ^ 63) }
 {
     if n < pairs.len() {
         Some(&pairs.pair(n).key)

@@ -1,7 +1,7 @@
 //! Maps of operands, which are weighed before anything is copied.
 ghost use Rattle.std.specs.Prelude.{◌≡◌, ◌+◌, ◌<◌, ◌≤◌, [], nat_le, reverse, IfOk, IfSome, IfNone};
 ghost use Rattle.sz_value.specs.Data.{mapping, entries_of, bytes};
-ghost use Rattle.sz_value.specs.Order.{compare};
+ghost use Rattle.sz_value.specs.Order.{compare, KeysRise};
 ghost use Rattle.sz_value.specs.Seen.{seen};
 ghost use Rattle.sz_value.specs.Maps.{with_pairs};
 ghost use Rattle.sz_value.specs.Weight.{weight_of};
@@ -17,7 +17,7 @@ use crate::weights::view_weight;
 use std::alloc::Global;
 use std::cmp::Ordering;
 use sz_builtin::View;
-use sz_value::{NoMemory, Pairs, Value, order};
+use sz_value::{NoMemory, Pair, Pairs, Value, order};
 
 /// A key and its value, to look at where they stand.
 #[derive(Clone, Copy)]
@@ -127,15 +127,19 @@ fn sum_within(pairs: &[PairView<'_>], first: u64, most: u64) -> Option<u64>
     if sum > most { None } else { Some(sum) }
 }
 
-// Copies of the pairs, put in one after another.
+// Copies of pairs whose keys rise.
+#[tactic(auto, using(crate::proofs::PairLemmas::one_copied))]
 fn copied(alloc: Global, pairs: &[PairView<'_>]) -> Result<Pairs, NoMemory>
-    ensures value { IfOk result (λ made. made ≡ with_pairs [] (seen_pair_views pairs.now)) }
+    requires rising { KeysRise (seen_pair_views pairs.now) }
+    ensures value { IfOk result (λ made. made ≡ seen_pair_views pairs.now) }
 {
-    let mut made = Pairs::new(alloc);
+    let mut made = Vec::with_capacity(alloc, pairs.len())?;
     for pair in pairs {
-        made.insert(pair.key.owned(alloc)?, pair.value.owned(alloc)?)?;
+        let key = pair.key.owned(alloc)?;
+        let value = pair.value.owned(alloc)?;
+        made.push(Pair { key, value })?;
     }
-    Ok(made)
+    Pairs::from_rising(alloc, made)
 }
 
 // How two values stand in the order of values. Nothing is copied for that.

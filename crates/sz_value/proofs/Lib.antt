@@ -4,6 +4,7 @@ pub mod MapLemmas
 pub mod PlaceLemmas
 pub mod RunLemmas
 pub mod HalfLemmas
+pub mod EndLemmas
 pub mod GatherLemmas
 pub mod PartLemmas
 pub mod HashLemmas

@@ -1,11 +1,9 @@
 -- Pairs by place, in one list and in runs.
-use Rattle.std.specs.Global.{Vec}
 use Rattle.std.proofs.Common.{◌≡◌, ℕ, zero, suc, ◌+◌, ◌-◌, ◌<◌, ◌≤◌, List, [], ◌∷◌, ◌++◌, length, map, take, drop, get_or, slice_get, Some, refl, sym, ap, ◌∙◌, arith}
-use Rattle.std.proofs.lemmas.List.{take_more, drop_more, length-map, map-append}
-use Rattle.std.specs.Option.{option_map}
-use Rattle.std.proofs.lemmas.Option.{slice_get_within, get_or_from_slice_get, slice_get-get_or, slice_get-map}
+use Rattle.std.proofs.lemmas.List.{take_more, drop_more, map-append}
+use Rattle.std.proofs.lemmas.Option.{slice_get_within, get_or_from_slice_get}
 use Rattle.sz_value.specs.Data.{Datum}
-use Rattle.sz_value.specs.Seen.{seen_pair, seen_pairs, seen_runs}
+use Rattle.sz_value.specs.Seen.{seen_pair}
 use Rattle.sz_value.specs.declared.value.Pair.{Pair}
 use Rattle.sz_value.specs.declared.value.List.TheDeep.{deep-Value, deep-Pair}
 use Rattle.sz_value.specs.Code.{datum_nodes, pairs_nodes}
@@ -49,22 +47,6 @@ pub value_fewer : (ps : List (Datum × Datum)) (i : ℕ) (p : Pair) → slice_ge
 value_fewer ps i p is =
     let here = ap (λ q. datum_nodes q.0 + datum_nodes q.1) (get_or_from_slice_get ps i (seen_pair p) (seen_pair p) is) in
     omega (arith, nodes_at ps i (seen_pair p) (slice_get_within ps i (seen_pair p) is), here, deep_le-nodes p.value)
-
--- what stands in the first run
-pub pair_front : (r : Vec Pair) (rs : List (Vec Pair)) (i : ℕ) (p : Pair) → i < length r.items → p ≡ get_or r.items i p
-    → Some (seen_pair p) ≡ slice_get (seen_runs (r ∷ rs)) i
-pair_front r rs i p within is =
-    ap (λ q. Some (seen_pair q)) is
-    ∙ sym (ap (option_map seen_pair) (slice_get-get_or r.items i p within))
-    ∙ sym (slice_get-map seen_pair r.items i)
-    ∙ sym (get_front (seen_pairs r.items) (seen_runs rs) i (omega (arith, length-map {B = Datum × Datum} r.items seen_pair)))
-
--- what stands in the runs behind it
-pub pair_back : (r : Vec Pair) (rs : List (Vec Pair)) (i : ℕ) → length r.items ≤ i
-    → slice_get (seen_runs (r ∷ rs)) i ≡ slice_get (seen_runs rs) (i - length r.items)
-pair_back r rs i past =
-    get_back (seen_pairs r.items) (seen_runs rs) i (omega (arith, length-map {B = Datum × Datum} r.items seen_pair))
-    ∙ ap (λ n. slice_get (seen_runs rs) (i - n)) (length-map r.items seen_pair)
 
 -- the front with what stands behind it
 pub taken_more : (ps : List (Datum × Datum)) (i : ℕ) (p : Datum × Datum) → slice_get ps i ≡ Some p → take (i + 1) ps ≡ take i ps ++ p ∷ []

@@ -1,5 +1,4 @@
 -- The parts of a value have fewer nodes than the value.
-use Rattle.std.specs.Global.{Vec}
 use Rattle.std.specs.Prelude.{◌≡◌, ◌≤◌, ◌+◌, List, [], ◌∷◌, ◌++◌, map, max}
 use Rattle.std.proofs.Common.{arith}
 use denote.Param.Weighed.{most}
@@ -9,7 +8,8 @@ use Rattle.sz_value.specs.Seen.{seen, seen_pair, seen_runs}
 use Rattle.sz_value.specs.declared.value.Value.{Value}
 use Rattle.sz_value.specs.declared.value.Value.TheVariants.{Bool, Int, Time, Str, Bytes, Array, Tuple, Map}
 use Rattle.sz_value.specs.declared.value.Pair.{Pair}
-use Rattle.sz_value.specs.declared.value.List.TheDeep.{deep-Value, deep-Pair}
+use Rattle.sz_value.specs.declared.value.Run.{Run}
+use Rattle.sz_value.specs.declared.value.List.TheDeep.{deep-Value, deep-Pair, deep-Run}
 
 pub deep_le-nodes : (v : Value) → deep-Value v ≤ datum_nodes (seen v)
 deep_le-nodes (Bool b) = omega arith
@@ -34,6 +34,6 @@ nodes_of_both : (ps qs : List (Datum × Datum)) → pairs_nodes (ps ++ qs) ≡ p
 nodes_of_both [] qs = omega arith
 nodes_of_both (p ∷ ps) qs = omega (arith, nodes_of_both ps qs)
 
-pub most_le-runs : (runs : List (Vec Pair)) → max (most (λ run. most deep-Pair run.items) runs) 0 ≤ pairs_nodes (seen_runs runs)
+pub most_le-runs : (runs : List Run) → max (most deep-Run runs) 0 ≤ pairs_nodes (seen_runs runs)
 most_le-runs [] = omega arith
-most_le-runs (run ∷ runs) = omega (arith, nodes_of_both (map seen_pair run.items) (seen_runs runs), most_le-pairs run.items, most_le-runs runs)
+most_le-runs (run ∷ runs) = omega (arith, nodes_of_both (map seen_pair run.pairs.items) (seen_runs runs), most_le-pairs run.pairs.items, most_le-runs runs)

@@ -47,7 +47,7 @@ pub fn copy_pairs(alloc: Global, pairs: &Pairs) -> Result<Pairs, NoMemory>
     for place in 0..count {
         made.push(copy_pair(alloc, pairs.pair(place))?)?;
     }
-    Pairs::in_one_run(alloc, made)
+    Pairs::from_rising(alloc, made)
 }
 
 // A copy of a key and its value.

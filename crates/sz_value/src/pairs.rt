@@ -10,7 +10,7 @@ use crate::NoMemory;
 use crate::ordering::order;
 use crate::run::put_in;
 use crate::runs::{pair_at, place_in, put, replace, value_in};
-use crate::value::{Pair, Pairs, Value};
+use crate::value::{Pair, Pairs, Run, Value};
 use std::alloc::Global;
 
 // No more pairs than a list can have.
@@ -32,11 +32,11 @@ impl Pairs {
     pub fn from_pairs(alloc: Global, pairs: Vec<Pair>) -> Result<Pairs, NoMemory>
         ensures value { IfOk result (λ made. made ≡ with_pairs [] (seen_pairs pairs.items)) }
     {
-        Pairs::in_one_run(alloc, gathered(alloc, sorted(pairs)?)?)
+        Pairs::from_rising(alloc, gathered(alloc, sorted(pairs)?)?)
     }
 
-    // Pairs whose keys rise.
-    pub(crate) fn in_one_run(alloc: Global, pairs: Vec<Pair>) -> Result<Pairs, NoMemory>
+    /// The pairs of a map from pairs whose keys rise. They stay where they lie.
+    pub fn from_rising(alloc: Global, pairs: Vec<Pair>) -> Result<Pairs, NoMemory>
         requires rising { KeysRise (seen_pairs pairs.items) }
         ensures value { IfOk result (λ made. made ≡ seen_pairs pairs.items) }
     {
@@ -45,7 +45,7 @@ impl Pairs {
             return Ok(Pairs::new(alloc));
         }
         let mut runs = Vec::with_capacity(alloc, 1)?;
-        runs.push(pairs)?;
+        runs.push(Run { pairs, end: count })?;
         Ok(Pairs { runs, count })
     }
 
@@ -70,7 +70,7 @@ impl Pairs {
         requires within { place < length self.now }
         ensures value { slice_get self.now place ≡ Some (seen_pair result.now) }
     {
-        pair_at(&self.runs, place).unwrap()
+        pair_at(&self.runs, place)
     }
 
     /// The place of the pair with this key, if there is one.

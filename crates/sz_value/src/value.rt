@@ -80,7 +80,7 @@ pub struct Pair {
 #[cycle(value)]
 #[derive(Debug)]
 pub struct Pairs {
-    pub(crate) runs: Vec<Vec<Pair>>,
+    pub(crate) runs: Vec<Run>,
     pub(crate) count: usize,
 }
 
@@ -88,6 +88,22 @@ impl Drop for Pairs {
     #[cycle(drop)]
     fn drop(self) {
         let Pairs { runs: _, count: _ } = self;
+    }
+}
+
+// Pairs that lie together, and how many pairs there are up to the last of them, with those of all runs before, so that a place
+// is found by halving.
+#[cycle(value)]
+#[derive(Debug)]
+pub(crate) struct Run {
+    pub(crate) pairs: Vec<Pair>,
+    pub(crate) end: usize,
+}
+
+impl Drop for Run {
+    #[cycle(drop)]
+    fn drop(self) {
+        let Run { pairs: _, end: _ } = self;
     }
 }
 
@@ -122,11 +138,16 @@ impl Model for Pairs {
     ghost coded = { pairs_code };
 
     ghost use Rattle.sz_value.specs.Seen.{seen_runs};
-    ghost use Rattle.sz_value.specs.Runs.{AreRuns};
+    ghost use Rattle.sz_value.specs.Runs.{AreRuns, AreEnds};
 
     ghost view = { λ pairs. seen_runs pairs.runs.items };
 
-    ghost invariant = { λ pairs. AreRuns pairs.runs.items × (pairs.count ≡ std.length (seen_runs pairs.runs.items)) × (pairs.count < 2 ^ 63) };
+    ghost invariant = { λ pairs. record {
+      runs : AreRuns pairs.runs.items;
+      ends : AreEnds 0 pairs.runs.items;
+      count : pairs.count ≡ std.length (seen_runs pairs.runs.items);
+      small : pairs.count < 2 ^ 63;
+    } };
 
     ghost size = { pairs_nodes };
 

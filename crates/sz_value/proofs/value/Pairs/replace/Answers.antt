@@ -3,4 +3,9 @@ use Rattle.std.proofs.Common.{arith}
 use Rattle.sz_value.proofs.value.Pairs.replace.Goals as goal
 
 pub invariant_of-self : goal.invariant_of-self
-invariant_of-self c = (c.replace.ensures.runs, omega (arith, c.self.invariant.1, c.replace.ensures.count), c.self.invariant.2)
+invariant_of-self c = record {
+  runs = c.replace.ensures.runs;
+  ends = c.replace.ensures.ends;
+  count = omega (arith, c.self.invariant.count, c.replace.ensures.count);
+  small = c.self.invariant.small;
+}
