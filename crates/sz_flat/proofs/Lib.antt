@@ -3,6 +3,7 @@ pub mod ListLemmas
 pub mod SpellingLemmas
 pub mod FrontLemmas
 pub mod ReadingLemmas
+pub mod ComparingLemmas
 pub mod WritingLemmas
 pub mod RisingLemmas
 pub mod StandardFacts

@@ -1,5 +1,5 @@
 -- Lists that are kept flat: what their bytes say of their values, and reading them.
-use Rattle.std.proofs.Common.{◌≡◌, ◌∙◌, ℕ, suc, ◌≤◌, ◌+◌, ◌==◌, Bool, true, false, true≢false, Result, Ok, Err, OnOk, OnErr, List, [], ◌∷◌, ◌++◌}
+use Rattle.std.proofs.Common.{◌≡◌, ◌∙◌, ℕ, suc, ◌≤◌, ◌==◌, Bool, true, false, true≢false, Result, Ok, Err, OnOk, OnErr, List, [], ◌∷◌, ◌++◌}
 use Rattle.std.proofs.Common.{length, refl, sym, ap, subst, arith, append_assoc, length-append, nat_eq}
 use Rattle.std.specs.Cmp.Lexicographic.{pointwise, bytes_decides}
 use Rattle.std.specs.Coded.{Coded-set, coded_list, coded_ℕ}

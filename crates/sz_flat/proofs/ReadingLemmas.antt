@@ -11,11 +11,11 @@ use Rattle.sz_flat.specs.Reading.{Language, values, pair, lengths, numbers, stri
 use Rattle.sz_flat.proofs.SpellingLemmas.{one_spelling, same_length, same_string}
 use Rattle.sz_flat.proofs.FrontLemmas.{pair_unique, all_unique, parts_again, pairs_again, data_again, entries_again, parts_spelled, pairs_spelled, parts_have, have_parts, pairs_have, have_pairs}
 
-abbrev tail : List ℕ → List ℕ
+abbrev pub tail : List ℕ → List ℕ
 tail [] = []
 tail (b ∷ bs) = bs
 
-abbrev head : List ℕ → ℕ
+abbrev pub head : List ℕ → ℕ
 head [] = 0
 head (b ∷ bs) = b
 

@@ -1,21 +1,25 @@
 //! Lists of values that are kept flat.
 ghost use Rattle.std.specs.Prelude.{◌≡◌, ◌==◌, [], length, IfOk, OnOk, OnErr};
+ghost use Rattle.std.specs.Cmp.Lexicographic.{slice_cmp};
 ghost use Rattle.sz_value.specs.Data.{data_of};
+ghost use Rattle.sz_value.specs.Order.{compare};
 ghost use Rattle.sz_flat.specs.Spelling.{HaveShortLengths};
 ghost use Rattle.sz_flat.specs.Lists.{Spelled, same_values, list_writes};
 ghost use Rattle.sz_flat.specs.Kept.{spelled_prop, same_values_per, same_values_equiv, same_values_hash_alike};
 
 use crate::NoMemory;
+use crate::comparing::order_all;
 use crate::error::FlatError;
 use crate::kept_bytes::KeptBytes;
 use crate::reading::read_all;
 use std::alloc::{AllocError, Global};
+use std::cmp::Ordering;
 use std::hash::{Hash, Hasher};
 use std::marker::Model;
 use sz_value::List;
 
 /// A list of values, kept as the bytes that spell them, one after the other. Two lists are equal exactly where their bytes are, so it
-/// is compared and hashed by its bytes. A table keeps one for each of its index lists, so a copy has few bytes in place.
+/// is tested for equality and hashed by its bytes. A table keeps one for each of its index lists, so a copy has few bytes in place.
 ///
 /// Contracts see the list of the values as plain data.
 pub struct FlatList {
@@ -85,6 +89,13 @@ impl FlatList {
         ensures value { result ≡ (length self.now == 0) }
     {
         self.bytes.as_slice().is_empty()
+    }
+
+    /// How the two lists compare, value by value. Nothing is read back, and it takes no memory.
+    pub fn order(&self, other: &FlatList) -> Ordering
+        ensures value { result ≡ slice_cmp compare self.now other.now }
+    {
+        order_all(self.bytes.as_slice(), other.bytes.as_slice())
     }
 }
 

@@ -1,6 +1,7 @@
 //! Values as bytes, so that equal values have equal bytes and others don't.
 #![tactic(auto)]
 
+mod comparing;
 mod error;
 mod flat_list;
 mod kept_bytes;

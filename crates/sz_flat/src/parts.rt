@@ -1,8 +1,9 @@
 //! What values are made of, read from the front of bytes: lengths, numbers, and bytes after their number.
-ghost use Rattle.std.specs.Prelude.{◌≡◌, IsTrue, ◌↔◌, length, take};
+ghost use Rattle.std.specs.Prelude.{◌≡◌, IsTrue, ◌↔◌, length, take, IfErr};
 ghost use Rattle.std.specs.Int.{w32, w64, cast_signed, from_be_bytes};
 ghost use Rattle.sz_value.specs.Order.{KeysRise};
 ghost use Rattle.sz_value.specs.Seen.{seen_pairs};
+ghost use Rattle.sz_flat.specs.declared.error.FlatError.TheVariants as errors;
 ghost use Rattle.sz_flat.specs.Reading.{Reads, lengths, numbers, strings};
 
 use crate::error::FlatError;
@@ -11,6 +12,7 @@ use sz_value::{Pair, order};
 // The length in front.
 pub(crate) fn read_length(flat: &[u8]) -> Result<(u32, &[u8]), FlatError>
     ensures value { Reads lengths (λ r. r.0) (λ r. r.1.now) flat.now result }
+    ensures err { IfErr result (λ e. e ≡ errors.NotFlat) }
 {
     if flat.len() < 4 {
         return Err(FlatError::NotFlat);
@@ -30,6 +32,7 @@ fn length_of(front: &[u8]) -> u32
 // The number in front.
 pub(crate) fn read_number(flat: &[u8]) -> Result<(i64, &[u8]), FlatError>
     ensures value { Reads numbers (λ r. r.0) (λ r. r.1.now) flat.now result }
+    ensures err { IfErr result (λ e. e ≡ errors.NotFlat) }
 {
     if flat.len() < 8 {
         return Err(FlatError::NotFlat);
@@ -51,6 +54,7 @@ fn number_of(front: &[u8]) -> i64
 // The bytes in front, after their number.
 pub(crate) fn read_string(flat: &[u8]) -> Result<(&[u8], &[u8]), FlatError>
     ensures value { Reads strings (λ r. r.0.now) (λ r. r.1.now) flat.now result }
+    ensures err { IfErr result (λ e. e ≡ errors.NotFlat) }
 {
     let (length, rest) = read_length(flat)?;
     let length = length as usize;

@@ -5,6 +5,7 @@ ghost use Rattle.sz_value.specs.Seen.{seen};
 ghost use Rattle.sz_flat.specs.Spelling.{HasShortLengths};
 
 use std::alloc::Global;
+use std::cmp::Ordering;
 use std::test::Fail;
 use std::thread::Builder;
 use sz_flat::{FlatError, FlatList, from_flat, to_flat};
@@ -230,6 +231,112 @@ fn flat_lists_are_equal_where_their_values_are(rt: HostRuntime) -> Result<(), Fa
     for (first, second, equal) in twos() {
         let found = are_one_and_two(rt.alloc(), *first, *second)?;
         assert!(rt; found == *equal, "at {first} and {second}");
+    }
+    Ok(())
+}
+
+// Lists of values in their order, as the bytes of arrays of them.
+const RISING: &[&[u8]] = &[
+    &[6, 0, 0, 0, 0],
+    &[6, 0, 0, 0, 1, 1, 0],
+    &[6, 0, 0, 0, 2, 1, 0, 1, 0],
+    &[6, 0, 0, 0, 1, 1, 1],
+    // The least number, -256, -1, -1 with a list of nothing after it, 0, 1 and 256.
+    &[6, 0, 0, 0, 1, 2, 0x80, 0, 0, 0, 0, 0, 0, 0],
+    &[6, 0, 0, 0, 1, 2, 255, 255, 255, 255, 255, 255, 255, 0],
+    &[6, 0, 0, 0, 1, 2, 255, 255, 255, 255, 255, 255, 255, 255],
+    &[
+        6, 0, 0, 0, 2, 2, 255, 255, 255, 255, 255, 255, 255, 255, 6, 0, 0, 0, 0,
+    ],
+    &[6, 0, 0, 0, 1, 2, 0, 0, 0, 0, 0, 0, 0, 0],
+    &[6, 0, 0, 0, 1, 2, 0, 0, 0, 0, 0, 0, 0, 1],
+    &[6, 0, 0, 0, 1, 2, 0, 0, 0, 0, 0, 0, 1, 0],
+    // Two times, one of them before the epoch.
+    &[6, 0, 0, 0, 1, 3, 255, 255, 255, 255, 255, 255, 255, 255],
+    &[6, 0, 0, 0, 1, 3, 0, 0, 0, 0, 0, 0, 0, 5],
+    // Texts: none, "a", "a" with true after it, "ab", "b", "b" and then "a", "é".
+    &[6, 0, 0, 0, 1, 4, 0, 0, 0, 0],
+    &[6, 0, 0, 0, 1, 4, 0, 0, 0, 1, 0x61],
+    &[6, 0, 0, 0, 2, 4, 0, 0, 0, 1, 0x61, 1, 1],
+    &[6, 0, 0, 0, 1, 4, 0, 0, 0, 2, 0x61, 0x62],
+    &[6, 0, 0, 0, 1, 4, 0, 0, 0, 1, 0x62],
+    &[6, 0, 0, 0, 2, 4, 0, 0, 0, 1, 0x62, 4, 0, 0, 0, 1, 0x61],
+    &[6, 0, 0, 0, 1, 4, 0, 0, 0, 2, 0xc3, 0xa9],
+    // Bytes.
+    &[6, 0, 0, 0, 1, 5, 0, 0, 0, 0],
+    &[6, 0, 0, 0, 1, 5, 0, 0, 0, 2, 0, 255],
+    &[6, 0, 0, 0, 1, 5, 0, 0, 0, 1, 255],
+    // Arrays: of nothing, of true, of true and false, of 1, and the last with false and true after it.
+    &[6, 0, 0, 0, 1, 6, 0, 0, 0, 0],
+    &[6, 0, 0, 0, 1, 6, 0, 0, 0, 1, 1, 1],
+    &[6, 0, 0, 0, 1, 6, 0, 0, 0, 2, 1, 1, 1, 0],
+    &[6, 0, 0, 0, 1, 6, 0, 0, 0, 1, 2, 0, 0, 0, 0, 0, 0, 0, 1],
+    &[
+        6, 0, 0, 0, 2, 6, 0, 0, 0, 1, 2, 0, 0, 0, 0, 0, 0, 0, 1, 1, 0,
+    ],
+    &[
+        6, 0, 0, 0, 2, 6, 0, 0, 0, 1, 2, 0, 0, 0, 0, 0, 0, 0, 1, 1, 1,
+    ],
+    // Tuples: of nothing, of an array of false and false, of an array of false and true, of "a".
+    &[6, 0, 0, 0, 1, 7, 0, 0, 0, 0],
+    &[6, 0, 0, 0, 1, 7, 0, 0, 0, 2, 6, 0, 0, 0, 1, 1, 0, 1, 0],
+    &[6, 0, 0, 0, 1, 7, 0, 0, 0, 2, 6, 0, 0, 0, 1, 1, 0, 1, 1],
+    &[6, 0, 0, 0, 1, 7, 0, 0, 0, 2, 6, 0, 0, 0, 1, 1, 1, 1, 0],
+    // Maps: of nothing, of false to true, of that and true to false, of true to false, the last with 1 after it, and of true to true.
+    &[6, 0, 0, 0, 1, 8, 0, 0, 0, 0],
+    &[6, 0, 0, 0, 1, 8, 0, 0, 0, 1, 1, 0, 1, 1],
+    &[6, 0, 0, 0, 1, 8, 0, 0, 0, 2, 1, 0, 1, 1, 1, 1, 1, 0],
+    &[6, 0, 0, 0, 1, 8, 0, 0, 0, 1, 1, 1, 1, 0],
+    &[
+        6, 0, 0, 0, 2, 8, 0, 0, 0, 1, 1, 1, 1, 0, 2, 0, 0, 0, 0, 0, 0, 0, 1,
+    ],
+    &[6, 0, 0, 0, 1, 8, 0, 0, 0, 1, 1, 1, 1, 1],
+];
+
+fn rising() -> &'static [&'static [u8]] {
+    RISING
+}
+
+// The parts of the array that the bytes spell, kept flat.
+#[tactic(auto, using(sz_flat::proofs::ForCallers::short_spelling))]
+fn parts_kept(alloc: Global, flat: &[u8]) -> Result<FlatList, FlatError> {
+    let value = from_flat(alloc, flat)?;
+    kept_of(alloc, &value)
+}
+
+// The parts of an array, kept flat.
+fn kept_of(alloc: Global, value: &Value) -> Result<FlatList, FlatError>
+    requires short { HasShortLengths (seen value.now) }
+{
+    let mut kept = FlatList::new(alloc);
+    match value {
+        Value::Array(list) => kept.set(list)?,
+        _ => return Err(FlatError::NotFlat),
+    }
+    Ok(kept)
+}
+
+// How the parts of the arrays that the bytes spell compare.
+fn order_of(alloc: Global, one: &[u8], other: &[u8]) -> Result<Ordering, FlatError> {
+    let one = parts_kept(alloc, one)?;
+    let other = parts_kept(alloc, other)?;
+    Ok(one.order(&other))
+}
+
+// Whether the list compares with each of those in order as its place with theirs.
+fn stands_at(alloc: Global, place: usize, list: &[u8]) -> bool {
+    for (other_place, other) in rising().iter().enumerate() {
+        if order_of(alloc, list, other) != Ok(place.cmp(&other_place)) {
+            return false;
+        }
+    }
+    true
+}
+
+#[test]
+fn flat_lists_have_the_order_of_their_values(rt: HostRuntime) -> Result<(), Fail> {
+    for (place, list) in rising().iter().enumerate() {
+        assert!(rt; stands_at(rt.alloc(), place, list), "at {list:?}");
     }
     Ok(())
 }
