@@ -1,4 +1,4 @@
-//! Tables, emits and types of messages. In each line a program stands before `=>`, where `$` is the end of a line, and after it what `check` says of it.
+//! Tables, emits, types of messages and named types. In each line a program stands before `=>`, where `$` is the end of a line, and after it what `check` says of it.
 
 /// Each kind of table, with limits, indexes, elements and weights that it takes and that it doesn't.
 pub const TABLES: &str = "t: table maximum of string weight int; => 17 at 1:10
@@ -120,3 +120,17 @@ type M = proto { a: int @ 1 }; m: M; m.b = 1; => 11 at 1:40: b
 m: proto { a: int @ 1 }; n: proto { a: int @ 2 } = m; => 9 at 1:52
 m: proto { a: int @ 1 }; n: proto { a: int @ 1 zigzag } = m; => 9 at 1:59
 m: proto { a: int @ 1 }; n: proto { a: int @ 1 } = m; b: bool = m == n; => fine";
+
+/// Named types: such as are made where they are declared, and maps of maps of maps, which aren't.
+pub const NAMED_TYPES: &str =
+    "type T = {a: int, b: array of string}; x: T; y: T = x; z: {a: int, b: array of string} = y; => fine
+type T = {a: int}; type U = {a: string}; t: T; u: U = t; => 9 at 1:55
+type T = {a: int}; type U = {t: T, ts: array of T, m: map[string] of T}; u: U; v: U = u; x: int = v.t.a + v.ts[0].a + v.m[\"x\"].a; => fine
+type M = map[int] of int; type N = map[M] of M; type O = map[N] of N; type P = map[O] of O; type Q = map[P] of P; q: Q; p: P; r: P = q[p]; => fine
+type M = map[int] of int; type N = map[M] of M; type O = map[N] of N; type P = map[O] of O; type Q = map[P] of P; q: Q; p: P; o: O = q[p]; => 9 at 1:134
+type M = map[int] of int; type N = map[M] of M; type O = map[N] of N; type P = map[O] of O; type Q = map[P] of P; type T = {q: Q}; t: T; p: P; r: P = t.q[p]; => fine
+type M = map[int] of int; type N = map[M] of M; type O = map[N] of N; type P = map[O] of O; type Q = map[P] of P; m: proto { q: Q @ 1 }; => 18 at 1:126: q
+type M = proto { a: int @ 1 }; type L = array of M; m: proto { a: M @ 1, b: L @ 2 }; => fine
+type M = proto { a: int @ 1 }; type L = array of M; m: proto { b: array of L @ 1 }; => 18 at 1:64: b
+type L = array of array of int; m: proto { b: L @ 1 }; => 18 at 1:44: b
+type T = {a: int}; m: proto { b: T @ 1 }; => 18 at 1:31: b";

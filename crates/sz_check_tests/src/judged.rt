@@ -1,7 +1,7 @@
 //! What no contract says: that `check` gives a program or its refusal where there is memory, on each of its arms, and that the
 //! definition is the one that was meant.
 
-use crate::declarations::{EMITS, PROTO_TYPES, TABLES};
+use crate::declarations::{EMITS, NAMED_TYPES, PROTO_TYPES, TABLES};
 use crate::programs::{EXPRESSIONS, PROGRAMS, STATEMENTS};
 use crate::quantified::WHENS;
 use std::alloc::{AllocError, Global};
@@ -21,6 +21,7 @@ const ROWS: &[&str] = &[
     TABLES,
     EMITS,
     PROTO_TYPES,
+    NAMED_TYPES,
 ];
 
 fn rows() -> &'static [&'static str] {

@@ -29,6 +29,31 @@ fn chain(alloc: Global, count: u32) -> Result<String, AllocError> {
     Ok(program)
 }
 
+/// This many types, each a map of the one before to itself, of which no variable is.
+fn doubling(alloc: Global, count: u32) -> Result<String, AllocError> {
+    let mut program = String::new(alloc);
+    writeln!(program, "type M0 = int;")?;
+    for number in 1..count {
+        let before = number - 1;
+        writeln!(program, "type M{number} = map[M{before}] of M{before};")?;
+    }
+    Ok(program)
+}
+
+/// This many variables of a named tuple type with as many parts.
+fn wide(alloc: Global, count: u32) -> Result<String, AllocError> {
+    let mut program = String::new(alloc);
+    program.push_str("type T = {a: int")?;
+    for number in 1..count {
+        write!(program, ", a{number}: int")?;
+    }
+    program.push_str("};\n")?;
+    for number in 0..count {
+        writeln!(program, "x{number}: T;")?;
+    }
+    Ok(program)
+}
+
 /// This many variables of a tuple type that is 200 levels high.
 fn nested(alloc: Global, count: u32) -> Result<String, AllocError> {
     let mut program = String::new(alloc);
@@ -93,11 +118,14 @@ fn is_fine(alloc: Global, text: &str) -> bool {
 /// Whether nothing is refused of large programs.
 fn large_are_fine(alloc: Global) -> Result<bool, AllocError> {
     let chain = chain(alloc, 30_000)?;
+    let doubling = doubling(alloc, 10_000)?;
+    let wide = wide(alloc, 10_000)?;
     let nested = nested(alloc, 1_000)?;
     let tower = tower(alloc, 1_000)?;
     let declarations = declarations(alloc, 45_000)?;
     let is_deep_fine = is_fine(alloc, &chain) && is_fine(alloc, &nested) && is_fine(alloc, &tower);
-    Ok(is_deep_fine && is_fine(alloc, &declarations))
+    let is_wide_fine = is_fine(alloc, &doubling) && is_fine(alloc, &wide);
+    Ok(is_deep_fine && is_wide_fine && is_fine(alloc, &declarations))
 }
 
 #[test]
