@@ -10,7 +10,7 @@ use crate::row::push_rows;
 use std::alloc::Global;
 use sz_list::Items;
 use sz_tabs::NoMemory;
-use sz_total::{IndexedRows, TableRows, Total};
+use sz_total::{IndexedRows, RowsInOrder, TableRows, Total};
 use sz_types::{TableDecl, TableDecls};
 use sz_value::Octets;
 
@@ -56,12 +56,28 @@ fn text_of_rows<'a>(
 {
     let mut text = Vec::new(alloc);
     for (number, table) in tables.as_slice().iter().enumerate() {
-        push_table(table, total.rows(number)?.as_slice(), &mut text)?;
+        push_in_order(alloc, table, &total.in_order(number)?, &mut text)?;
     }
     Ok(text)
 }
 
-// Appends the lines of a table.
+// Appends the lines of a table, of which the rows under one index list at a time are made.
+fn push_in_order<'t, 'a>(
+    alloc: Global,
+    table: &TableDecl,
+    shown: &RowsInOrder<'t, 'a>,
+    out: &mut Vec<u8>,
+) -> Result<(), NoMemory>
+    ensures value { OnOk result (out.new.items ≡ out.old.items ++ table_lines (seen_table table.now) shown.now) }
+{
+    for place in 0..shown.len() {
+        let list = shown.rows(alloc, place)?;
+        push_rows(table, &list.indexes, &list.rows, out)?;
+    }
+    Ok(())
+}
+
+// Appends the lines of a table with these rows.
 fn push_table(table: &TableDecl, shown: &[IndexedRows], out: &mut Vec<u8>) -> Result<(), NoMemory>
     ensures value { OnOk result (out.new.items ≡ out.old.items ++ table_lines (seen_table table.now) shown.now) }
 {

@@ -1,72 +1,82 @@
 -- The first key, and the keys in value order.
 use Rattle.std.proofs.Common.{option_map, slice_get}
-use Rattle.std.proofs.Common.{◌≡◌, ◌∙◌, Bool, false, cond, Some, List, [], ◌∷◌, map, refl, sym, ap, Ordering, IsSorted, is_lt}
-use Rattle.std.specs.Cmp.Lexicographic.{slice_cmp}
-use Rattle.std.specs.Cmp.Derive.Mapped.{lex_map}
+use Rattle.std.proofs.Common.{◌≡◌, ◌∙◌, Bool, false, cond, Some, List, [], ◌∷◌, map, refl, sym, ap, Ordering, IsSorted, IsPermutation, is_lt}
 use Rattle.std.specs.Cmp.{on_total, IsStrictWeakOrder}
 use Rattle.std.specs.List.{IsDistinct, AllByRecursion}
-use Rattle.std.specs.List.Sorted.{IsStable}
 use Rattle.std.proofs.lemmas.List.MinMax.{ranks_by}
+use Rattle.std.proofs.lemmas.List.Elements.{All-from_recursion, recursion_from_All}
+use Rattle.std.proofs.lemmas.List.Sorted.{IsPermutation-map, All-permutation}
 use Rattle.std.specs.Option.{option_map_or}
 use Rattle.std.specs.Map.{keys_of, lookup, set_value}
 use Rattle.indexmap.specs.IndexMap.{set_value_at}
 use Rattle.std.proofs.lemmas.Map.Keys.{IsDistinct-head, IsDistinct-tail}
 use Rattle.sz_value.specs.Data.{Datum}
-use Rattle.sz_value.specs.Order.{compare}
-use Rattle.sz_value.specs.Seen.{seen}
-use Rattle.sz_value.specs.declared.value.Value.{Value}
 use Rattle.sz_tabs.specs.Rows.{compare_indexes}
 use Rattle.sz_tabs.specs.Sorting.{sorted}
-use Rattle.sz_tabs.proofs.ForCallers.{stable_sort_is_sorted, sorted_mapped}
+use Rattle.sz_tabs.proofs.ForCallers.{stable_sort_is_sorted, sorted_mapped, sorted_in_any_order}
 use Rattle.sz_total.specs.Aggregates.{shown_of}
 use Rattle.sz_total.specs.Tables.{Indexed}
 use Rattle.sz_total.specs.Entries.{Entries, same_indexes, indexed, entry_rows, rows_in_order}
 use Rattle.sz_total.specs.declared.aggregate.Aggregate.{Aggregate}
-use Rattle.sz_total.proofs.TablesLemmas.{indexes_total}
+use Rattle.sz_total.proofs.TablesLemmas.{indexes_total, indexes_tie}
 use Rattle.sz_total.proofs.ListLemmas.{same_laws, distinct_apart}
 
--- how lists of values compare, seen as plain data
-pub lists_compare : (xs ys : List Value) → slice_cmp (λ v w. compare (seen v) (seen w)) xs ys ≡ compare_indexes (map seen xs) (map seen ys)
-lists_compare xs ys = sym (lex_map seen compare xs ys)
+-- an entry shows what stands under its index list
+abbrev HasItsRows : Entries → List Datum × Aggregate → Type 0
+HasItsRows entries e = entry_rows e ≡ indexed entries e.0
 
 -- an index list in front has no rows under others
-rows_later : (key : List Datum) (a : Aggregate) (entries : Entries) (ks : List (List Datum)) → AllByRecursion (λ l. same_indexes key l ≡ false) ks
-    → map (indexed ((key, a) ∷ entries)) ks ≡ map (indexed entries) ks
-rows_later key a entries [] apart = refl
-rows_later key a entries (k ∷ ks) apart =
-    let other = same_laws.symm k key ∙ apart.0 in
-    λ i. record { indexes = k; rows = option_map_or shown_of (cond (other i) (Some a) (lookup (same_indexes k) entries)) [] }
-    ∷ rows_later key a entries ks apart.1 i
+rows_later : (key : List Datum) (a : Aggregate) (entries es : Entries) → AllByRecursion (λ l. same_indexes key l ≡ false) (keys_of es)
+    → AllByRecursion (HasItsRows entries) es → AllByRecursion (HasItsRows ((key, a) ∷ entries)) es
+rows_later key a entries [] apart have = tt
+rows_later key a entries (e ∷ es) apart have =
+    let other = same_laws.symm e.0 key ∙ apart.0 in
+    let under : Bool → Indexed = λ b. record { indexes = e.0; rows = option_map_or shown_of (cond b (Some a) (lookup (same_indexes e.0) entries)) [] } in
+    (have.0 ∙ ap under (sym other), rows_later key a entries es apart.1 have.1)
 
 -- what stands under each index list is what its aggregator shows, where no two index lists are the same
-pub entries_indexed : (entries : Entries) → IsDistinct same_indexes (keys_of entries) → map entry_rows entries ≡ map (indexed entries) (keys_of entries)
-entries_indexed [] apart = refl
-entries_indexed (h ∷ hs) apart =
-    let same = same_laws.refl h.0 in
-    let later = entries_indexed hs (IsDistinct-tail same_indexes h.0 (keys_of hs) apart)
-    ∙ sym (rows_later h.0 h.1 hs (keys_of hs) (IsDistinct-head same_indexes h.0 (keys_of hs) apart)) in
-    λ i. record { indexes = h.0; rows = option_map_or shown_of (cond (sym same i) (Some h.1) (lookup (same_indexes h.0) hs)) [] } ∷ later i
+have_their_rows : (entries : Entries) → IsDistinct same_indexes (keys_of entries) → AllByRecursion (HasItsRows entries) entries
+have_their_rows [] apart = tt
+have_their_rows (h ∷ hs) apart =
+    let under : Bool → Indexed = λ b. record { indexes = h.0; rows = option_map_or shown_of (cond b (Some h.1) (lookup (same_indexes h.0) hs)) [] } in (
+      ap under (sym (same_laws.refl h.0)),
+      rows_later h.0 h.1 hs hs (IsDistinct-head same_indexes h.0 (keys_of hs) apart)
+          (have_their_rows hs (IsDistinct-tail same_indexes h.0 (keys_of hs) apart)),
+    )
 
--- how rows compare by their index lists
-abbrev pub rows_order : Indexed → Indexed → Ordering
-rows_order s t = compare_indexes s.indexes t.indexes
+rows_of_keys : (entries es : Entries) → AllByRecursion (HasItsRows entries) es → map entry_rows es ≡ map (indexed entries) (keys_of es)
+rows_of_keys entries [] have = refl
+rows_of_keys entries (e ∷ es) have = λ i. have.0 i ∷ rows_of_keys entries es have.1 i
+
+-- how entries compare by their index lists
+abbrev pub entries_order : List Datum × Aggregate → List Datum × Aggregate → Ordering
+entries_order e f = compare_indexes e.0 f.0
 
 -- whether the index list of the one is less
-abbrev pub rows_less : Indexed → Indexed → Bool
-rows_less s t = is_lt (rows_order s t)
+abbrev pub entries_less : List Datum × Aggregate → List Datum × Aggregate → Bool
+entries_less e f = is_lt (entries_order e f)
 
-pub rows_ordered : IsStrictWeakOrder rows_less
-rows_ordered = ranks_by indexes_total (λ (s : Indexed). s.indexes)
+pub entries_ordered : IsStrictWeakOrder entries_less
+entries_ordered = ranks_by indexes_total (λ (e : List Datum × Aggregate). e.0)
 
--- what a stable sort leaves
-pub rows_sorted : (entries : Entries) (old new : List Indexed) → IsDistinct same_indexes (keys_of entries) → old ≡ map entry_rows entries
-    → IsSorted rows_order new
-    → IsStable rows_order old new → new ≡ rows_in_order entries
-rows_sorted entries old new apart are in_order stable =
-    stable_sort_is_sorted (on_total (λ (s : Indexed). s.indexes) indexes_total) old new in_order stable
-    ∙ ap (sorted rows_order) (are ∙ entries_indexed entries apart)
-    ∙ sorted_mapped rows_order (indexed entries) (keys_of entries)
-    ∙ ap (map (indexed entries)) (sym (distinct_apart (keys_of entries) apart))
+-- what a sort leaves: only one order of the index lists is sorted, since no two are the same
+pub entries_sorted : (entries new : Entries) → IsDistinct same_indexes (keys_of entries) → IsPermutation entries new → IsSorted entries_order new
+    → map entry_rows new ≡ rows_in_order entries
+entries_sorted entries new apart moved in_order =
+    rows_of_keys entries new
+    (recursion_from_All has new (All-permutation has entries new moved (All-from_recursion has entries (have_their_rows entries apart))))
+    ∙ ap (map (indexed entries)) (keys_are ∙ sym (distinct_apart (keys_of entries) apart))
+  where
+    has : List Datum × Aggregate → Type 0
+    has = HasItsRows entries
+
+    key : List Datum × Aggregate → List Datum
+    key e = e.0
+
+    keys_are : keys_of new ≡ sorted compare_indexes (keys_of entries)
+    keys_are =
+        ap keys_of (stable_sort_is_sorted (on_total key indexes_total) new new in_order (λ v. refl)) ∙ sym (sorted_mapped compare_indexes key new)
+        ∙ sym (sorted_in_any_order indexes_total indexes_tie (keys_of entries) (keys_of new) (IsPermutation-map key entries new moved))
 
 -- the first key, where it is empty
 pub first_key : (es : Entries) (key : List Datum) (a : Aggregate) → Some (key, a) ≡ slice_get es 0 → key ≡ [] → slice_get (keys_of es) 0 ≡ Some []

@@ -6,6 +6,7 @@ mod JoiningLemmas
 mod TurnLemmas
 mod TypedLemmas
 mod KeyLemmas
+mod ReadLemmas
 mod PlaceLemmas
 mod TotalLemmas
 mod MergingLemmas

@@ -1,26 +1,21 @@
 //! The aggregators of one table, each found by hashing the bytes that spell its index list.
-ghost use Rattle.std.specs.Prelude.{◌≡◌, ◌≤◌, ◌+◌, ◌-◌, ◌^◌, [], map, None, Some, slice_get, true, IfOk, OnOk, OnErr};
-ghost use Rattle.std.specs.List.{IsDistinct};
+ghost use Rattle.std.specs.Prelude.{◌≡◌, ◌≤◌, ◌+◌, ◌-◌, ◌^◌, [], None, Some, slice_get, true, OnOk, OnErr};
 ghost use Rattle.std.specs.Map.{keys_of, lookup};
 ghost use Rattle.indexmap.specs.IndexMap.{index_map_len, spare, IsEmpty};
 ghost use Rattle.sz_types.specs.SeenTables.{seen_table};
 ghost use Rattle.sz_tabs.specs.Fitting.{Fits};
-ghost use Rattle.sz_tabs.specs.Rows.{compare_indexes, brought_by};
-ghost use Rattle.sz_total.specs.Aggregates.{IsBounded};
-ghost use Rattle.sz_total.specs.Entries.{AreBounded, AreOfTable, TakesEmit, same_indexes, entry_rows, rows_in_order};
+ghost use Rattle.sz_tabs.specs.Rows.{brought_by};
+ghost use Rattle.sz_total.specs.Entries.{AreOfTable, TakesEmit, same_indexes};
 ghost use Rattle.sz_total.specs.Short.{HasShortParts};
 ghost use Rattle.sz_total.specs.Weights.{HasItsWeights};
 
-use crate::aggregate::{Aggregate, add_to, new_aggregate, rows_shown};
-use crate::indexed::{IndexedRows, TableRows};
+use crate::aggregate::{Aggregate, add_to, new_aggregate};
 use indexmap::IndexMap;
 use std::alloc::Global;
-use std::cmp::Ordering;
 use std::hash::{BuildHasherDefault, DefaultHasher};
 use sz_flat::FlatList;
 use sz_tabs::{Emit, NoMemory};
 use sz_types::TableDecl;
-use sz_value::List;
 
 /// The aggregator under each index list that something was emitted under. The lists are kept flat. Whoever writes the records picks the
 /// indexes, so they are hashed by a function that forgets nothing before its end.
@@ -118,51 +113,4 @@ fn put_emit<'a>(
     let key = key.copied(alloc)?;
     lists.insert(key, aggregate)?;
     Ok(())
-}
-
-// The rows under each index list, these in value order.
-pub(crate) fn all_rows<'a>(alloc: Global, lists: &IndexLists<'a>) -> Result<TableRows, NoMemory>
-    ensures value { IfOk result (λ rows. rows ≡ rows_in_order lists.now.entries) }
-    ensures bounded { OnOk result (AreBounded lists.now.entries) }
-{
-    let mut rows = rows_as_they_came(alloc, lists)?;
-    rows.sort_by(|one, two| order_lists(&one.indexes, &two.indexes))?;
-    Ok(TableRows::from_vec(rows))
-}
-
-// How two index lists compare.
-fn order_lists(one: &List, other: &List) -> Ordering
-    ensures value { result ≡ compare_indexes one.now other.now }
-{
-    one.as_slice().cmp(&other.as_slice())
-}
-
-// The rows under each index list, in the order in which these came. No two of them are the same.
-fn rows_as_they_came<'a>(
-    alloc: Global,
-    lists: &IndexLists<'a>,
-) -> Result<Vec<IndexedRows>, NoMemory>
-    ensures value { IfOk result (λ rows. rows.items ≡ map entry_rows lists.now.entries) }
-    ensures apart { OnOk result (IsDistinct same_indexes (keys_of lists.now.entries)) }
-    ensures bounded { OnOk result (AreBounded lists.now.entries) }
-{
-    let mut rows = Vec::with_capacity(alloc, lists.len())?;
-    for (key, aggregate) in lists {
-        rows.push(rows_of_entry(alloc, key, aggregate)?)?;
-    }
-    Ok(rows)
-}
-
-// An index list, read back from its key, with the rows of its aggregator.
-fn rows_of_entry<'a>(
-    alloc: Global,
-    key: &FlatList,
-    aggregate: &Aggregate<'a>,
-) -> Result<IndexedRows, NoMemory>
-    ensures value { IfOk result (λ rows. rows ≡ entry_rows (key.now, aggregate.now)) }
-    ensures bounded { OnOk result (IsBounded aggregate.now) }
-{
-    let indexes = key.values(alloc)?;
-    let rows = rows_shown(aggregate)?;
-    Ok(IndexedRows { indexes, rows })
 }

@@ -3,6 +3,7 @@
 
 mod aggregate;
 mod boxed;
+mod in_order;
 mod index_lists;
 mod indexed;
 mod joining;
@@ -10,6 +11,7 @@ mod laws;
 mod one_table;
 mod total;
 
+pub use in_order::RowsInOrder;
 pub use indexed::{IndexedRows, TableRows};
 pub use laws::{
     a_table_shows_its_indexes, no_emits_no_rows, tables_forget_the_order, what_is_shown_fits,

@@ -8,7 +8,8 @@ ghost use Rattle.sz_total.specs.OneTable.{table_shown, GainsEmit, ChangesRoomAlo
 ghost use Rattle.sz_total.specs.Short.{HasShortParts};
 ghost use Rattle.sz_total.specs.Weights.{HasItsWeights};
 
-use crate::index_lists::{IndexLists, all_rows, no_lists, take_emit};
+use crate::in_order::{RowsInOrder, all_rows};
+use crate::index_lists::{IndexLists, no_lists, take_emit};
 use crate::indexed::TableRows;
 use crate::joining::{make_room, take_all};
 use std::alloc::Global;
@@ -104,5 +105,12 @@ impl<'a> OneTable<'a> {
         ensures within { OnOk result (SumsAreWithin (2 ^ 63 * self.now.count) (table_shown self.now)) }
     {
         all_rows(self.alloc, &self.lists)
+    }
+
+    /// The same rows, of which those under one index list at a time can be asked for.
+    pub(crate) fn in_order(&self) -> Result<RowsInOrder<'_, 'a>, NoMemory>
+        ensures value { IfOk result (λ rows. rows ≡ table_shown self.now) }
+    {
+        RowsInOrder::new(self.alloc, &self.lists)
     }
 }

@@ -11,6 +11,7 @@ ghost use Rattle.sz_total.specs.States.{declarations, emit_count, shown};
 ghost use Rattle.sz_total.specs.Totals.{IsNew, Gains, Joins};
 ghost use Rattle.sz_total.specs.Weights.{HaveTheirWeights};
 
+use crate::in_order::RowsInOrder;
 use crate::indexed::TableRows;
 use crate::one_table::OneTable;
 use std::alloc::Global;
@@ -118,6 +119,16 @@ impl<'a> Total<'a> {
     {
         let states = &self.states[table];
         states.rows()
+    }
+
+    /// The same rows, of which those under one index list at a time can be asked for. It takes memory for the order of the index lists
+    /// alone.
+    pub fn in_order(&self, table: usize) -> Result<RowsInOrder<'_, 'a>, NoMemory>
+        requires declared { table < length self.now.tables }
+        ensures value { IfOk result (λ rows. rows ≡ shown self.now table) }
+    {
+        let states = &self.states[table];
+        states.in_order()
     }
 
     /// How many emits were added. What the tables show comes from so many emits that fit them.

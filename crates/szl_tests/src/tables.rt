@@ -119,6 +119,9 @@ c: table sum[array of int] of int; x: int = input; emit c[{x, 1}] <- 1; emit c[{
 c: table sum[{a: int, b: string}] of int; s: string = input; emit c[{len(s), s}] <- 1; => 0 c[{1, "a"}] = 1¶c[{1, "b"}] = 1¶c[{2, "cc"}] = 1¶
 c: table sum[map[string] of int] of int; s: string = input; emit c[{s: 1}] <- 1; emit c[{:}] <- 1; => 0 c[{:}] = 3¶c[{"a": 1}] = 1¶c[{"b": 1}] = 1¶c[{"cc": 1}] = 1¶
 m: table maximum(1)[length: int] of string weight int; s: string = input; emit m[len(s)] <- s weight s[0]; => 0 m[1] = "b" weight 98¶m[2] = "cc" weight 99¶
+< ¶
+c: table sum[string][int] of int; for (i := 15; i > 0; i--) { emit c["b"][i] <- 1; emit c["a"][-i] <- i; } => 0 c["a"][-15] = 15¶c["a"][-14] = 14¶c["a"][-13] = 13¶c["a"][-12] = 12¶c["a"][-11] = 11¶c["a"][-10] = 10¶c["a"][-9] = 9¶c["a"][-8] = 8¶c["a"][-7] = 7¶c["a"][-6] = 6¶c["a"][-5] = 5¶c["a"][-4] = 4¶c["a"][-3] = 3¶c["a"][-2] = 2¶c["a"][-1] = 1¶c["b"][1] = 1¶c["b"][2] = 1¶c["b"][3] = 1¶c["b"][4] = 1¶c["b"][5] = 1¶c["b"][6] = 1¶c["b"][7] = 1¶c["b"][8] = 1¶c["b"][9] = 1¶c["b"][10] = 1¶c["b"][11] = 1¶c["b"][12] = 1¶c["b"][13] = 1¶c["b"][14] = 1¶c["b"][15] = 1¶
+c: table sum[int] of int; for (i := 1; i < 61; i++) emit c[i * 37 % 61] <- i; => 0 c[1] = 33¶c[2] = 5¶c[3] = 38¶c[4] = 10¶c[5] = 43¶c[6] = 15¶c[7] = 48¶c[8] = 20¶c[9] = 53¶c[10] = 25¶c[11] = 58¶c[12] = 30¶c[13] = 2¶c[14] = 35¶c[15] = 7¶c[16] = 40¶c[17] = 12¶c[18] = 45¶c[19] = 17¶c[20] = 50¶c[21] = 22¶c[22] = 55¶c[23] = 27¶c[24] = 60¶c[25] = 32¶c[26] = 4¶c[27] = 37¶c[28] = 9¶c[29] = 42¶c[30] = 14¶c[31] = 47¶c[32] = 19¶c[33] = 52¶c[34] = 24¶c[35] = 57¶c[36] = 29¶c[37] = 1¶c[38] = 34¶c[39] = 6¶c[40] = 39¶c[41] = 11¶c[42] = 44¶c[43] = 16¶c[44] = 49¶c[45] = 21¶c[46] = 54¶c[47] = 26¶c[48] = 59¶c[49] = 31¶c[50] = 3¶c[51] = 36¶c[52] = 8¶c[53] = 41¶c[54] = 13¶c[55] = 46¶c[56] = 18¶c[57] = 51¶c[58] = 23¶c[59] = 56¶c[60] = 28¶
 
 == maps that grow: one is one index and one value, in whatever order it grew
 < ¶

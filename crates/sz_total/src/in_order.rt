@@ -1,0 +1,141 @@
+//! The index lists of a table in value order, each lent with its aggregator.
+ghost use Rattle.std.specs.Prelude.{◌≡◌, ◌<◌, length, map, slice_get, Some, IfOk, OnOk, IsPermutation};
+ghost use Rattle.sz_tabs.specs.Rows.{compare_indexes};
+ghost use Rattle.sz_total.specs.Aggregates.{IsBounded};
+ghost use Rattle.sz_total.specs.Entries.{AreBounded, entry_rows, rows_in_order};
+
+use crate::aggregate::{Aggregate, rows_shown};
+use crate::index_lists::IndexLists;
+use crate::indexed::{IndexedRows, TableRows};
+use std::alloc::Global;
+use std::cmp::Ordering;
+use std::marker::Model;
+use sz_flat::FlatList;
+use sz_tabs::NoMemory;
+
+/// An index list of a table, lent with its aggregator. Contracts see the index list as plain data.
+#[derive(Drop)]
+struct Entry<'t, 'a> {
+    key: &'t FlatList,
+    aggregate: &'t Aggregate<'a>,
+}
+
+impl<'t, 'a> Model for Entry<'t, 'a> {
+    ghost use Rattle.sz_value.specs.Data.{Datum};
+    ghost use Rattle.sz_value.specs.Code.{parts_code};
+    ghost use Rattle.std.specs.Prelude.{List};
+    ghost use Rattle.std.specs.Coded.{coded×};
+    ghost use Rattle.sz_total.specs.Code.{aggregate_code};
+    ghost use Rattle.sz_total.specs.declared.aggregate.Aggregate as aggregates;
+
+    ghost Value = { List Datum × aggregates.Aggregate };
+
+    ghost coded = { coded× parts_code aggregate_code };
+
+    ghost view = { λ e. (e.key.now, e.aggregate.now) };
+}
+
+impl<'t, 'a> Entry<'t, 'a> {
+    // How its index list compares with that of another entry.
+    fn order(&self, other: &Entry<'t, 'a>) -> Ordering
+        ensures value { result ≡ compare_indexes self.now.0 other.now.0 }
+    {
+        self.key.order(other.key)
+    }
+
+    // Its index list, read back, with the rows of its aggregator.
+    fn rows(&self, alloc: Global) -> Result<IndexedRows, NoMemory>
+        ensures value { IfOk result (λ rows. rows ≡ entry_rows self.now) }
+        ensures bounded { OnOk result (IsBounded self.now.1) }
+    {
+        let indexes = self.key.values(alloc)?;
+        let rows = rows_shown(self.aggregate)?;
+        Ok(IndexedRows { indexes, rows })
+    }
+}
+
+/// The rows of a table, with the index lists in value order, which are lent: the rows under one of them are made when they are asked
+/// for, so that nobody has to hold those under all. Places are counted from 0.
+///
+/// Contracts see the list of all rows.
+pub struct RowsInOrder<'t, 'a> {
+    entries: Vec<Entry<'t, 'a>>,
+}
+
+impl<'t, 'a> Drop for RowsInOrder<'t, 'a> {
+    fn drop(self) {
+        let RowsInOrder { entries: _ } = self;
+    }
+}
+
+impl<'t, 'a> Model for RowsInOrder<'t, 'a> {
+    ghost use Rattle.std.specs.Prelude.{List, map};
+    ghost use Rattle.std.specs.Coded.{coded_list};
+    ghost use Rattle.sz_total.specs.Tables.{Indexed};
+    ghost use Rattle.sz_total.specs.Code.{indexed_code};
+    ghost use Rattle.sz_total.specs.Entries.{entry_rows};
+
+    ghost Value = { List Indexed };
+
+    ghost coded = { coded_list indexed_code };
+
+    ghost view = { λ r. map entry_rows r.entries.items };
+}
+
+impl<'t, 'a> RowsInOrder<'t, 'a> {
+    // The index lists of a table, in value order.
+    pub(crate) fn new(
+        alloc: Global,
+        lists: &'t IndexLists<'a>,
+    ) -> Result<RowsInOrder<'t, 'a>, NoMemory>
+        ensures value { IfOk result (λ rows. rows ≡ rows_in_order lists.now.entries) }
+    {
+        let entries = entries_in_order(alloc, lists)?;
+        Ok(RowsInOrder { entries })
+    }
+
+    /// The number of index lists.
+    pub fn len(&self) -> usize
+        ensures value { result ≡ length self.now }
+    {
+        self.entries.len()
+    }
+
+    /// The index list at a place, with the rows under it.
+    pub fn rows(&self, alloc: Global, place: usize) -> Result<IndexedRows, NoMemory>
+        requires within { place < length self.now }
+        ensures value { IfOk result (λ rows. slice_get self.now place ≡ Some rows) }
+    {
+        self.entries[place].rows(alloc)
+    }
+}
+
+// The rows under each index list, these in value order.
+#[tactic(auto, using(crate::proofs::ReadLemmas::one_read, crate::proofs::ReadLemmas::all_bounded))]
+pub(crate) fn all_rows<'a>(alloc: Global, lists: &IndexLists<'a>) -> Result<TableRows, NoMemory>
+    ensures value { IfOk result (λ rows. rows ≡ rows_in_order lists.now.entries) }
+    ensures bounded { OnOk result (AreBounded lists.now.entries) }
+{
+    let entries = entries_in_order(alloc, lists)?;
+    let mut all = TableRows::with_capacity(alloc, entries.len())?;
+    for entry in &entries {
+        all.push(entry.rows(alloc)?)?;
+    }
+    Ok(all)
+}
+
+// The index lists with their aggregators, in value order. No two index lists are the same, so it doesn't matter how ties are sorted.
+fn entries_in_order<'t, 'a>(
+    alloc: Global,
+    lists: &'t IndexLists<'a>,
+) -> Result<Vec<Entry<'t, 'a>>, NoMemory>
+    ensures value { IfOk result (λ entries. map entry_rows entries.items ≡ rows_in_order lists.now.entries) }
+    ensures same { IfOk result (λ entries. IsPermutation lists.now.entries entries.items) }
+{
+    let mut entries = Vec::with_capacity(alloc, lists.len())?;
+    for (key, aggregate) in lists {
+        entries.push(Entry { key, aggregate })?;
+    }
+    entries.sort_unstable_by(|one, other| one.order(other));
+    Ok(entries)
+}
