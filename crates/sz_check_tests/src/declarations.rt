@@ -1,4 +1,5 @@
-//! Tables, emits, types of messages and named types. In each line a program stands before `=>`, where `$` is the end of a line, and after it what `check` says of it.
+//! Tables, emits, types of messages and named types. In each line a program stands before `=>`, where `$` is the end of a line, and after it what
+//! `check` says of it.
 
 /// Each kind of table, with limits, indexes, elements and weights that it takes and that it doesn't.
 pub const TABLES: &str = "t: table maximum of string weight int; => 17 at 1:10
