@@ -1,22 +1,23 @@
 -- What is found of spellings that are walked at once, from what is found of their parts.
-use Rattle.std.proofs.Common.{◌≡◌, ◌∙◌, ◌≢◌, ℕ, suc, ◌*◌, ◌+◌, ◌-◌, ◌<◌, ◌≤◌, ◌==◌, Result, Ok, Err, List, [], ◌∷◌, ◌++◌, length, length-append, true, true≢false, refl, sym, ap, subst, append_assoc, arith}
+use Rattle.std.proofs.Common.{◌≡◌, ◌∙◌, ◌≢◌, ℕ, ◌*◌, ◌+◌, ◌-◌, ◌<◌, ◌≤◌, ◌==◌, Result, Ok, Err, List, [], ◌∷◌, ◌++◌, length}
+use Rattle.std.proofs.Common.{length-append, true, true≢false, refl, sym, ap, subst, append_assoc, arith}
 use Rattle.std.specs.Borrow.{Bor}
 use Rattle.std.specs.Cmp.{nat_cmp_is}
 use Rattle.std.specs.Cmp.Lexicographic.{slice_cmp}
-use Rattle.std.specs.Ordering.{nat_cmp, int_cmp, bool_cmp, ordering_then, is_eq, Ordering-set}
+use Rattle.std.specs.Ordering.{nat_cmp, bool_cmp, ordering_then, is_eq, Ordering-set}
 use Rattle.std.specs.declared.cmp.Ordering.{Ordering}
 use Rattle.std.specs.declared.cmp.Ordering.TheVariants.{Less, Equal, Greater}
 use Rattle.std.proofs.Math.Logic.{∥∥₁_elim}
 use Rattle.std.proofs.lemmas.Bool.{eqb-true}
-use Rattle.std.proofs.lemmas.Map.Lookups.{exact_unsigned}
-use Rattle.sz_value.specs.Data.{Datum, truth, int, time, str, bytes, array, tuple, mapping, Data, no_data, datum, data_of, parts_of, Entries, no_entries, entry, pairs_of}
-use Rattle.sz_value.specs.Order.{compare, compare_data, compare_entries, kind}
+use Rattle.sz_value.specs.Data.{Datum, truth}
+use Rattle.sz_value.specs.Data.{Data, no_data, datum, data_of, parts_of, Entries, no_entries, entry, pairs_of}
+use Rattle.sz_value.specs.Order.{compare, compare_data, compare_entries}
 use Rattle.sz_flat.specs.declared.error.FlatError.{FlatError}
 use Rattle.sz_flat.specs.declared.error.FlatError.TheVariants.{NotFlat}
 use Rattle.sz_flat.specs.Spelling.{length_bytes, spelling, spelled_parts, spelled_pairs, HaveSpellings, PairsHaveSpellings}
 use Rattle.sz_flat.specs.Lists.{SpellsAll, Spelled}
 use Rattle.sz_flat.specs.Kept.{some_bytes}
-use Rattle.sz_flat.specs.Reading.{Language, values, lengths, numbers, strings, Stands, Stops}
+use Rattle.sz_flat.specs.Reading.{Language, values, lengths, numbers, Stands, Stops}
 use Rattle.sz_flat.specs.Comparing.{truths, parts, lists, maps, Finds, ComparesBoth, Compares, Orders}
 use Rattle.sz_flat.proofs.SpellingLemmas.{same_length}
 use Rattle.sz_flat.proofs.FrontLemmas.{IsUnique}
@@ -65,72 +66,6 @@ module _ (one other : List ℕ) (found : Found) where
   truths_found f (truth b) (truth c) r s h k = f b c r s (record { has = tt; is = ap tail h.is }) (record { has = tt; is = ap tail k.is })
   truths_found f (truth b) e r s h k = absurd (let byte = ap head k.is in omega (arith, byte))
   truths_found f d e r s h k = absurd (let byte = ap head h.is in omega (arith, byte))
-
-  pub ints_found : Compares numbers int_cmp one other found → Compares values compare (2 ∷ one) (2 ∷ other) found
-  ints_found f (int m) (int n) r s h k = f m n r s (record { has = h.has; is = ap tail h.is }) (record { has = k.has; is = ap tail k.is })
-  ints_found f (int m) e r s h k = absurd (let byte = ap head k.is in omega (arith, byte))
-  ints_found f d e r s h k = absurd (let byte = ap head h.is in omega (arith, byte))
-
-  pub times_found : Compares numbers int_cmp one other found → Compares values compare (3 ∷ one) (3 ∷ other) found
-  times_found f (time m) (time n) r s h k = f m n r s (record { has = h.has; is = ap tail h.is }) (record { has = k.has; is = ap tail k.is })
-  times_found f (time m) e r s h k = absurd (let byte = ap head k.is in omega (arith, byte))
-  times_found f d e r s h k = absurd (let byte = ap head h.is in omega (arith, byte))
-
-  pub texts_found : Compares strings (slice_cmp nat_cmp) one other found → Compares values compare (4 ∷ one) (4 ∷ other) found
-  texts_found f (str a) (str b) r s h k = f a b r s (record { has = h.has.0; is = ap tail h.is }) (record { has = k.has.0; is = ap tail k.is })
-  texts_found f (str a) e r s h k = absurd (let byte = ap head k.is in omega (arith, byte))
-  texts_found f d e r s h k = absurd (let byte = ap head h.is in omega (arith, byte))
-
-  pub octets_found : Compares strings (slice_cmp nat_cmp) one other found → Compares values compare (5 ∷ one) (5 ∷ other) found
-  octets_found f (bytes a) (bytes b) r s h k = f a b r s (record { has = h.has; is = ap tail h.is }) (record { has = k.has; is = ap tail k.is })
-  octets_found f (bytes a) e r s h k = absurd (let byte = ap head k.is in omega (arith, byte))
-  octets_found f d e r s h k = absurd (let byte = ap head h.is in omega (arith, byte))
-
-  pub arrays_found : Compares lists compare_data one other found → Compares values compare (6 ∷ one) (6 ∷ other) found
-  arrays_found f (array ds) (array es) r s h k = f ds es r s (record { has = h.has; is = ap tail h.is }) (record { has = k.has; is = ap tail k.is })
-  arrays_found f (array ds) e r s h k = absurd (let byte = ap head k.is in omega (arith, byte))
-  arrays_found f d e r s h k = absurd (let byte = ap head h.is in omega (arith, byte))
-
-  pub tuples_found : Compares lists compare_data one other found → Compares values compare (7 ∷ one) (7 ∷ other) found
-  tuples_found f (tuple ds) (tuple es) r s h k = f ds es r s (record { has = h.has; is = ap tail h.is }) (record { has = k.has; is = ap tail k.is })
-  tuples_found f (tuple ds) e r s h k = absurd (let byte = ap head k.is in omega (arith, byte))
-  tuples_found f d e r s h k = absurd (let byte = ap head h.is in omega (arith, byte))
-
-  pub maps_found : Compares maps compare_entries one other found → Compares values compare (8 ∷ one) (8 ∷ other) found
-  maps_found f (mapping ps) (mapping qs) r s h k =
-      f ps qs r s (record { has = (h.has.0, h.has.2); is = ap tail h.is }) (record { has = (k.has.0, k.has.2); is = ap tail k.is })
-  maps_found f (mapping ps) e r s h k = absurd (let byte = ap head k.is in omega (arith, byte))
-  maps_found f d e r s h k = absurd (let byte = ap head h.is in omega (arith, byte))
-
--- values of different kinds
-first_byte : (d : Datum) (rest : List ℕ) → head (spelling d ++ rest) ≡ suc (kind d)
-first_byte (truth b) rest = refl
-first_byte (int n) rest = refl
-first_byte (time n) rest = refl
-first_byte (str s) rest = refl
-first_byte (bytes s) rest = refl
-first_byte (array ds) rest = refl
-first_byte (tuple ds) rest = refl
-first_byte (mapping es) rest = refl
-
-by_kinds : (d e : Datum) → suc (kind d) ≢ suc (kind e) → compare d e ≡ nat_cmp (suc (kind d)) (suc (kind e))
-by_kinds (truth b) (truth c) apart = absurd (apart refl)
-by_kinds (int m) (int n) apart = absurd (apart refl)
-by_kinds (time m) (time n) apart = absurd (apart refl)
-by_kinds (str s) (str t) apart = absurd (apart refl)
-by_kinds (bytes s) (bytes t) apart = absurd (apart refl)
-by_kinds (array ds) (array es) apart = absurd (apart refl)
-by_kinds (tuple ds) (tuple es) apart = absurd (apart refl)
-by_kinds (mapping ps) (mapping qs) apart = absurd (apart refl)
-by_kinds d e apart = refl
-
-pub kinds_found : (m n : ℕ) (one other : List ℕ) → m ≢ n → Compares values compare (m ∷ one) (n ∷ other) (Err (nat_cmp m n))
-kinds_found m n one other apart d e r s h k =
-    let first : m ≡ suc (kind d) = ap head h.is ∙ first_byte d r in
-    let second : n ≡ suc (kind e) = ap head k.is ∙ first_byte e s in (
-      by_kinds d e (λ same. apart (first ∙ same ∙ sym second)) ∙ sym (λ i. nat_cmp (first i) (second i)),
-      λ tied. apart (exact_unsigned m n tied),
-    )
 
 -- where no value stands in front, anything may be found
 pub no_first : (one other : List ℕ) (found : Found) → length one < 1 → Compares values compare one other found
@@ -193,25 +128,29 @@ pairs_found one other m n more others found h k f ps qs r s x y =
     subst (λ o. Finds o r s found) (turns_compare ps qs)
     (f (turns_of ps) (turns_of qs) r s (map_stands one m more h ps r x) (map_stands other n others k qs s y))
 
+-- what is found of the first of several
+front_parts : (m n : ℕ) (one other : List ℕ) (found : Found) (d e : Datum) (ds es : Data) (r s : List ℕ) → Compares values compare one other found
+    → Stands (parts m) one (datum d ds) r → Stands (parts n) other (datum e es) s
+    → Finds (compare d e) (spelled_parts ds ++ r) (spelled_parts es ++ s) found
+front_parts m n one other found d e ds es r s front h k =
+    front d e (spelled_parts ds ++ r) (spelled_parts es ++ s)
+    (record { has = h.has.1.0; is = h.is ∙ append_assoc (spelling d) (spelled_parts ds) r })
+    (record { has = k.has.1.0; is = k.is ∙ append_assoc (spelling e) (spelled_parts es) s })
+
 -- the first of several, and the others
 module _ (m n : ℕ) (one other : List ℕ) (some : 0 < m) (others : 0 < n) where
-  pub first_differs : (o : Ordering) → Compares values compare one other (Err o) → ComparesBoth (parts m) (parts n) compare_data one other (Err o)
+  first_differs : (o : Ordering) → Compares values compare one other (Err o) → ComparesBoth (parts m) (parts n) compare_data one other (Err o)
   first_differs o front no_data es r s h k = absurd (let none = h.has.0 in omega (arith, none, some))
   first_differs o front (datum d ds) no_data r s h k = absurd (let none = k.has.0 in omega (arith, none, others))
   first_differs o front (datum d ds) (datum e es) r s h k =
-      let f = front d e (spelled_parts ds ++ r) (spelled_parts es ++ s)
-      (record { has = h.has.1.0; is = h.is ∙ append_assoc (spelling d) (spelled_parts ds) r })
-      (record { has = k.has.1.0; is = k.is ∙ append_assoc (spelling e) (spelled_parts es) s }) in
-      (decided (compare d e) (compare_data ds es) o f.0 f.1, f.1)
+      let f = front_parts m n one other (Err o) d e ds es r s front h k in (decided (compare d e) (compare_data ds es) o f.0 f.1, f.1)
 
-  pub first_equal : (rests : Bor (List ℕ) × Bor (List ℕ)) (found : Found) → Compares values compare one other (Ok rests)
+  first_equal : (rests : Bor (List ℕ) × Bor (List ℕ)) (found : Found) → Compares values compare one other (Ok rests)
       → ComparesBoth (parts (m - 1)) (parts (n - 1)) compare_data rests.0.now rests.1.now found → ComparesBoth (parts m) (parts n) compare_data one other found
   first_equal rests found front f no_data es r s h k = absurd (let none = h.has.0 in omega (arith, none, some))
   first_equal rests found front f (datum d ds) no_data r s h k = absurd (let none = k.has.0 in omega (arith, none, others))
   first_equal rests found front f (datum d ds) (datum e es) r s h k =
-      let same = front d e (spelled_parts ds ++ r) (spelled_parts es ++ s)
-      (record { has = h.has.1.0; is = h.is ∙ append_assoc (spelling d) (spelled_parts ds) r })
-      (record { has = k.has.1.0; is = k.is ∙ append_assoc (spelling e) (spelled_parts es) s }) in
+      let same = front_parts m n one other (Ok rests) d e ds es r s front h k in
       let long = h.has.0 in
       let wide = k.has.0 in
       subst (λ o. Finds (ordering_then o (compare_data ds es)) r s found) (sym same.0)
@@ -276,12 +215,19 @@ module _ (m n i : ℕ) (one other rest others : List ℕ) (h : IsLeft m n i one 
             (counted (m - (i + 1)) (n - (i + 1)) ((m - i) - 1) ((n - i) - 1) rests.0.now rests.1.now found (omega arith) (omega arith) f));
       }
 
-  pub left_differ : i < m → i < n → (o : Ordering) → Compares values compare rest others (Err o) → ComparesBoth (parts m) (parts n) compare_data one other (Err o)
+  pub left_differ : i < m → i < n → (o : Ordering) → Compares values compare rest others (Err o)
+      → ComparesBoth (parts m) (parts n) compare_data one other (Err o)
   left_differ some more o front =
       h.leads (Err o) (first_differs (m - i) (n - i) rest others (omega (arith, some)) (omega (arith, more)) o front)
 
   pub left_end : (i < m → i < n → ⊥) → (found : Found) → Finds (nat_cmp m n) rest others found → ComparesBoth (parts m) (parts n) compare_data one other found
   left_end end found f = h.leads found (none_left m n i rest others found h.first h.second end f)
+
+-- what is found of the first values
+front_values : (one other : List ℕ) (found : Found) (x y : Datum) (xs ys : List Datum) → Compares values compare one other found → SpellsAll one (x ∷ xs)
+    → SpellsAll other (y ∷ ys) → Finds (compare x y) (spelled_parts (data_of xs)) (spelled_parts (data_of ys)) found
+front_values one other found x y xs ys front h k =
+    front x y (spelled_parts (data_of xs)) (spelled_parts (data_of ys)) (record { has = h.spelled.0; is = h.is }) (record { has = k.spelled.0; is = k.is })
 
 -- values up to the end of the bytes
 module _ (one other : List ℕ) (some : 1 ≤ length one) (others : 1 ≤ length other) where
@@ -289,7 +235,7 @@ module _ (one other : List ℕ) (some : 1 ≤ length one) (others : 1 ≤ length
   order_differs o front [] ys h k = absurd (let none = ap length h.is in omega (arith, none, some))
   order_differs o front (x ∷ xs) [] h k = absurd (let none = ap length k.is in omega (arith, none, others))
   order_differs o front (x ∷ xs) (y ∷ ys) h k =
-      let f = front x y (spelled_parts (data_of xs)) (spelled_parts (data_of ys)) (record { has = h.spelled.0; is = h.is }) (record { has = k.spelled.0; is = k.is }) in
+      let f = front_values one other (Err o) x y xs ys front h k in
       sym (decided (compare x y) (slice_cmp compare xs ys) o f.0 f.1)
 
   pub order_equal : (rests : Bor (List ℕ) × Bor (List ℕ)) (o : Ordering) → Compares values compare one other (Ok rests)
@@ -297,7 +243,7 @@ module _ (one other : List ℕ) (some : 1 ≤ length one) (others : 1 ≤ length
   order_equal rests o front f [] ys h k = absurd (let none = ap length h.is in omega (arith, none, some))
   order_equal rests o front f (x ∷ xs) [] h k = absurd (let none = ap length k.is in omega (arith, none, others))
   order_equal rests o front f (x ∷ xs) (y ∷ ys) h k =
-      let same = front x y (spelled_parts (data_of xs)) (spelled_parts (data_of ys)) (record { has = h.spelled.0; is = h.is }) (record { has = k.spelled.0; is = k.is }) in
+      let same = front_values one other (Ok rests) x y xs ys front h k in
       f xs ys (record { spelled = h.spelled.1; is = same.1 }) (record { spelled = k.spelled.1; is = same.2 })
       ∙ sym (ap (λ p. ordering_then p (slice_cmp compare xs ys)) same.0)
 

@@ -32,7 +32,6 @@ pub(crate) fn order_all(one: &[u8], other: &[u8]) -> Ordering
 
 // The values in front.
 #[cycle(order)]
-#[tactic(auto, using(crate::proofs::ComparingLemmas::kinds_found))]
 fn order_fronts<'a>(one: &'a [u8], other: &'a [u8]) -> Walked<'a>
     ensures value { Compares values compare one.now other.now result }
     ensures less { IfOk result (λ rests. length rests.0.now < length one.now) }
@@ -51,7 +50,6 @@ fn order_fronts<'a>(one: &'a [u8], other: &'a [u8]) -> Walked<'a>
 
 // Two values of one kind, after its byte.
 #[cycle(order)]
-#[tactic(auto, using(crate::proofs::ComparingLemmas::ints_found, crate::proofs::ComparingLemmas::times_found, crate::proofs::ComparingLemmas::texts_found, crate::proofs::ComparingLemmas::octets_found, crate::proofs::ComparingLemmas::arrays_found, crate::proofs::ComparingLemmas::tuples_found, crate::proofs::ComparingLemmas::maps_found))]
 fn order_kind<'a>(kind: u8, one: &'a [u8], other: &'a [u8]) -> Walked<'a>
     ensures value { Compares values compare (kind ∷ one.now) (kind ∷ other.now) result }
     ensures less { IfOk result (λ rests. length rests.0.now ≤ length one.now) }

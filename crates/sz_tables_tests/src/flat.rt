@@ -326,7 +326,7 @@ fn order_of(alloc: Global, one: &[u8], other: &[u8]) -> Result<Ordering, FlatErr
 // Whether the list compares with each of those in order as its place with theirs.
 fn stands_at(alloc: Global, place: usize, list: &[u8]) -> bool {
     for (other_place, other) in rising().iter().enumerate() {
-        if order_of(alloc, list, other) != Ok(place.cmp(&other_place)) {
+        if order_of(alloc, list, other).ok() != Some(place.cmp(&other_place)) {
             return false;
         }
     }

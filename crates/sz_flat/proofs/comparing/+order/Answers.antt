@@ -9,8 +9,8 @@ use Rattle.sz_flat.proofs.comparing.+order.Goals as goal
 
 pub order_maps-returns-clause-value : goal.order_maps-returns-clause-value
 order_maps-returns-clause-value t c =
-    pairs_found c.args.one.now c.args.other.now c.in-Ok.count c.in-Ok-read_length.other_count c.in-Ok.after.now c.in-Ok-read_length.behind.now c.order_parts.result
-    c.in-Ok.ensures.value c.in-Ok-read_length.ensures.value c.order_parts.ensures.value
+    pairs_found c.args.one.now c.args.other.now c.in-Ok.count c.in-Ok-read_length.other_count c.in-Ok.after.now c.in-Ok-read_length.behind.now
+    c.order_parts.result c.in-Ok.ensures.value c.in-Ok-read_length.ensures.value c.order_parts.ensures.value
 
 pub order_parts-returns-in-Err-clause-value : goal.order_parts-returns-in-Err-clause-value
 order_parts-returns-in-Err-clause-value t c =
