@@ -12,13 +12,11 @@ use Rattle.std.proofs.lemmas.Bool.{eqb-true}
 use Rattle.sz_value.specs.Data.{Datum, truth}
 use Rattle.sz_value.specs.Data.{Data, no_data, datum, data_of, parts_of, Entries, no_entries, entry, pairs_of}
 use Rattle.sz_value.specs.Order.{compare, compare_data, compare_entries}
-use Rattle.sz_flat.specs.declared.error.FlatError.{FlatError}
-use Rattle.sz_flat.specs.declared.error.FlatError.TheVariants.{NotFlat}
 use Rattle.sz_flat.specs.Spelling.{length_bytes, spelling, spelled_parts, spelled_pairs, HaveSpellings, PairsHaveSpellings}
 use Rattle.sz_flat.specs.Lists.{SpellsAll, Spelled}
 use Rattle.sz_flat.specs.Kept.{some_bytes}
-use Rattle.sz_flat.specs.Reading.{Language, values, lengths, numbers, Stands, Stops}
-use Rattle.sz_flat.specs.Comparing.{truths, parts, lists, maps, Finds, ComparesBoth, Compares, Orders}
+use Rattle.sz_flat.specs.Reading.{Language, values, lengths, Stands}
+use Rattle.sz_flat.specs.Comparing.{truths, parts, maps, Finds, ComparesBoth, Compares, Orders}
 use Rattle.sz_flat.proofs.SpellingLemmas.{same_length}
 use Rattle.sz_flat.proofs.FrontLemmas.{IsUnique}
 use Rattle.sz_flat.proofs.ReadingLemmas.{head, tail, no_bytes, other_kind}
@@ -44,13 +42,6 @@ Greater≢Equal : Greater ≢ Equal
 Greater≢Equal e = true≢false (sym (ap is_eq e))
 
 module _ {Y : Type 0} (language : Language Y) (cmp : Y → Y → Ordering) (one other : List ℕ) (found : Found) where
-  -- where nothing of the kind stands in front, anything may be found
-  pub none_first : (e : FlatError) → Stops language one e → e ≡ NotFlat → Compares language cmp one other found
-  none_first e stop is x y after behind h k = absurd (subst (Stops language one) is stop x after h)
-
-  pub none_second : (e : FlatError) → Stops language other e → e ≡ NotFlat → Compares language cmp one other found
-  none_second e stop is x y after behind h k = absurd (subst (Stops language other) is stop y behind k)
-
   -- what stands in front was read
   pub both_read : IsUnique language → (x y : Y) (after behind : List ℕ) → Stands language one x after → Stands language other y behind
       → Finds (cmp x y) after behind found → Compares language cmp one other found
@@ -76,18 +67,6 @@ no_second one other found none x y after behind h k = absurd (no_bytes other non
 
 pub other_kinds : (m : ℕ) (one other : List ℕ) (found : Found) → (1 ≤ m → m ≤ 8 → ⊥) → Compares values compare (m ∷ one) other found
 other_kinds m one other found apart x y after behind h k = absurd (other_kind m one apart x after h)
-
--- after a number of parts stand so many
-list_stands : (flat : List ℕ) (count : ℕ) (more : List ℕ) → Stands lengths flat count more → (ds : Data) (after : List ℕ) → Stands lists flat ds after
-    → Stands (parts count) more ds after
-list_stands flat count more h ds after k =
-    let same = same_length count (length (parts_of ds)) more (spelled_parts ds ++ after) h.has k.has.0
-    (sym h.is ∙ k.is ∙ append_assoc (length_bytes (length (parts_of ds))) (spelled_parts ds) after) in
-    record { has = (sym same.0, k.has.1); is = same.1 }
-
-pub lists_found : (one other : List ℕ) (m n : ℕ) (more others : List ℕ) (found : Found) → Stands lengths one m more → Stands lengths other n others
-    → ComparesBoth (parts m) (parts n) compare_data more others found → Compares lists compare_data one other found
-lists_found one other m n more others found h k f ds es r s x y = f ds es r s (list_stands one m more h ds r x) (list_stands other n others k es s y)
 
 -- the keys and values of a map in turn
 abbrev turns_of : Entries → Data
@@ -164,42 +143,11 @@ pub record IsLeft (m n i : ℕ) (one other rest other_rest : List ℕ) : Type 0 
   pub leads : (found : Found) → ComparesBoth (parts (m - i)) (parts (n - i)) compare_data rest other_rest found
       → ComparesBoth (parts m) (parts n) compare_data one other found
 
--- after the fewer of two numbers of parts, the numbers decide
-pub none_left : (m n i : ℕ) (one other : List ℕ) (found : Found) → i ≤ m → i ≤ n → (i < m → i < n → ⊥) → Finds (nat_cmp m n) one other found
-    → ComparesBoth (parts (m - i)) (parts (n - i)) compare_data one other found
-none_left m n i one other found low under end f no_data no_data r s h k =
-    let none = h.has.0 in
-    let empty = k.has.0 in
-    let same : Equal ≡ nat_cmp m n = nat_cmp_is m n Equal (omega (arith, none, empty, low, under)) in
-    subst (λ (p : List ℕ × List ℕ). Finds Equal p.0 p.1 found) (λ j. (h.is j, k.is j)) (subst (λ o. Finds o one other found) (sym same) f)
-none_left m n i one other found low under end f no_data (datum e es) r s h k =
-    let none = h.has.0 in
-    let more = k.has.0 in
-    differ Less one other r s found Less≢Equal
-    (subst (λ o. Finds o one other found) (sym (nat_cmp_is m n Less (omega (arith, none, more, low, under)))) f)
-none_left m n i one other found low under end f (datum d ds) no_data r s h k =
-    let more = h.has.0 in
-    let none = k.has.0 in
-    differ Greater one other r s found Greater≢Equal
-    (subst (λ o. Finds o one other found) (sym (nat_cmp_is m n Greater (omega (arith, none, more, low, under)))) f)
-none_left m n i one other found low under end f (datum d ds) (datum e es) r s h k =
-    let more = h.has.0 in
-    let others = k.has.0 in
-    absurd (end (omega (arith, more)) (omega (arith, others)))
-
 counted : (m n j k : ℕ) (one other : List ℕ) (found : Found) → m ≡ j → n ≡ k → ComparesBoth (parts m) (parts n) compare_data one other found
     → ComparesBoth (parts j) (parts k) compare_data one other found
 counted m n j k one other found first second f =
     subst (λ c. ComparesBoth (parts j) (parts c) compare_data one other found) second
     (subst (λ c. ComparesBoth (parts c) (parts n) compare_data one other found) first f)
-
-pub all_left : (m n : ℕ) (one other : List ℕ) → IsLeft m n 0 one other one other
-all_left m n one other = record {
-  first = omega arith;
-  second = omega arith;
-  less = omega arith;
-  leads = λ found f. counted (m - 0) (n - 0) m n one other found (omega arith) (omega arith) f;
-}
 
 module _ (m n i : ℕ) (one other rest others : List ℕ) (h : IsLeft m n i one other rest others) where
   pub left_equal : i < m → i < n → (rests : Bor (List ℕ) × Bor (List ℕ)) → Compares values compare rest others (Ok rests)
@@ -219,9 +167,6 @@ module _ (m n i : ℕ) (one other rest others : List ℕ) (h : IsLeft m n i one 
       → ComparesBoth (parts m) (parts n) compare_data one other (Err o)
   left_differ some more o front =
       h.leads (Err o) (first_differs (m - i) (n - i) rest others (omega (arith, some)) (omega (arith, more)) o front)
-
-  pub left_end : (i < m → i < n → ⊥) → (found : Found) → Finds (nat_cmp m n) rest others found → ComparesBoth (parts m) (parts n) compare_data one other found
-  left_end end found f = h.leads found (none_left m n i rest others found h.first h.second end f)
 
 -- what is found of the first values
 front_values : (one other : List ℕ) (found : Found) (x y : Datum) (xs ys : List Datum) → Compares values compare one other found → SpellsAll one (x ∷ xs)
