@@ -1,7 +1,10 @@
 -- How the text of the tables is printed one after the other.
-use Rattle.std.proofs.Common.{◌≡◌, ◌∙◌, ℕ, suc, ◌+◌, ◌<◌, List, [], ◌∷◌, ◌++◌, map, length, get_or, drop, refl, sym, ap, arith, append_assoc, Some}
+use Rattle.std.proofs.Common.{◌≡◌, ◌∙◌, ℕ, suc, ◌+◌, ◌<◌, List, [], ◌∷◌, ◌++◌, map, length, get_or, take, drop, refl, sym, ap, arith, append_assoc, Some}
 use Rattle.std.specs.Prelude.{slice_get}
+use Rattle.std.specs.List.{flat_map}
 use Rattle.std.proofs.Math.Seq.{drop-cons}
+use Rattle.std.proofs.lemmas.List.{flat_map_more, take_more}
+use Rattle.std.proofs.lemmas.Option.{get_or_from_slice_get, slice_get_within}
 use Rattle.sz_types.specs.declared.table.TableDecl.{TableDecl}
 use Rattle.sz_types.specs.SeenTables.{seen_table}
 use Rattle.sz_types.specs.Tables.{Declaration}
@@ -9,8 +12,18 @@ use Rattle.sz_tabs.specs.Data.{EmitDatum}
 use Rattle.sz_total.specs.States.{TotalState, declarations, emit_count, shown}
 use Rattle.sz_total.specs.Totals.{StandsFor}
 use Rattle.sz_total.specs.Tables.{Indexed, table_rows}
+use Rattle.sz_print.specs.Lines.{row_lines}
 use Rattle.sz_print.specs.Tables.{table_lines, lines_from, lines_shown, rows_text, tables_text}
 use Rattle.sz_print.specs.Laws.{ShowsItsEmits}
+
+-- the lines of one index list more
+pub lines_more : (table : Declaration) (all : List Indexed) (at : ℕ) (one : Indexed) (before text next : List ℕ) → slice_get all at ≡ Some one
+    → next ≡ text ++ row_lines table one.indexes one.rows → text ≡ before ++ table_lines table (take at all)
+    → next ≡ before ++ table_lines table (take (at + 1) all)
+lines_more table all at one before text next there grown is =
+    let lines : Indexed → List ℕ = λ s. row_lines table s.indexes s.rows in
+    let front = take_more all at one (slice_get_within all at one there) ∙ ap (λ x. take at all ++ x ∷ []) (get_or_from_slice_get all at one one there) in
+    grown ∙ ap (λ t. t ++ lines one) is ∙ flat_map_more lines before (take at all) one ∙ ap (λ xs. before ++ flat_map lines xs) (sym front)
 
 -- the text so far and that of the tables from this one on are the text of all tables, where the table with a number shows these rows
 pub record IsTextUpTo (items : List TableDecl) (rows : ℕ → List Indexed) (at : ℕ) (text : List ℕ) : Type 0 where

@@ -111,7 +111,7 @@ impl<'t, 'a> RowsInOrder<'t, 'a> {
 }
 
 // The rows under each index list, these in value order.
-#[tactic(auto, using(crate::proofs::ReadLemmas::one_read, crate::proofs::ReadLemmas::all_bounded))]
+#[tactic(auto, using(crate::proofs::ReadLemmas::all_bounded))]
 pub(crate) fn all_rows<'a>(alloc: Global, lists: &IndexLists<'a>) -> Result<TableRows, NoMemory>
     ensures value { IfOk result (λ rows. rows ≡ rows_in_order lists.now.entries) }
     ensures bounded { OnOk result (AreBounded lists.now.entries) }

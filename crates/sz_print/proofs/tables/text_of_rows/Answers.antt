@@ -1,11 +1,10 @@
 -- Each turn appends the lines of one table.
-use Rattle.std.proofs.Common.{◌∙◌}
 use Rattle.sz_total.specs.States.{shown}
 use Rattle.sz_print.proofs.TablesLemmas.{text_more}
 use Rattle.sz_print.proofs.tables.text_of_rows.Goals as goal
 
 pub loop-number-preserved : goal.loop-number-preserved
 loop-number-preserved c =
-    text_more c.as_slice-table-items.result.now (shown c.args.total.now) c.loop-number.number c.loop-number.text.items c.push_table.new.out.items c.table-item.result
-    c.as_slice.result.now c.loop-number-test.true c.table-item.is (c.as_slice.ensures.value ∙ c.in_ok-rows.ensures.value)
-    c.in_ok-push_table.ensures.value c.loop-number.invariant
+    text_more c.as_slice-table-items.result.now (shown c.args.total.now) c.loop-number.number c.loop-number.text.items
+    c.push_in_order.new.out.items c.table-item.result c.in_ok-in_order.field-0 c.loop-number-test.true c.table-item.is
+    c.in_ok-in_order.ensures.value c.in_ok-push_in_order.ensures.value c.loop-number.invariant

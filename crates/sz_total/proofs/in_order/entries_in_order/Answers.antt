@@ -1,5 +1,5 @@
 -- What was collected are all entries, and their index lists are distinct.
-use Rattle.std.proofs.Common.{◌≡◌, ◌∙◌, ◌++◌, sym, ap, subst, rules, IsPermutation}
+use Rattle.std.proofs.Common.{◌∙◌, ◌++◌, sym, ap, subst, rules, IsPermutation}
 use Rattle.std.proofs.lemmas.Fn.{always_returns_same}
 use Rattle.std.proofs.lemmas.List.{append-nil}
 use Rattle.sz_total.proofs.KeyLemmas.{entries_less, entries_ordered, entries_sorted}
