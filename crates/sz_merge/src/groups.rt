@@ -20,7 +20,7 @@ pub(crate) struct Group {
 }
 
 // The groups with one more behind them. It is joined to the last one as long as that has at most twice as many rows,
-// so that each group has more than twice the rows of the next: all together have less than twice those of the first.
+// so that each group has more than twice the rows of the next: all together have less than twice those of the first; no clause says so.
 pub(crate) fn with_group(
     alloc: Global,
     groups: Vec<Group>,

@@ -17,7 +17,7 @@ use sz_save::{NoMemory, Saved, read_head, read_saved, same_decls};
 const MOST: u64 = 1 << 63;
 
 /// Files that were joined, in groups of files that stand side by side. Each group has more than twice as many rows as the next, so that all
-/// together have less than twice the rows of the first, and no row is moved many times.
+/// together have less than twice the rows of the first, and no row is moved many times; no clause says so.
 ///
 /// Contracts see what each group holds. It takes memory for what the groups hold, and for no file's bytes.
 pub struct Merging {

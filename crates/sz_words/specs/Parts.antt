@@ -24,7 +24,7 @@ is_equals b = nat_eq b 61
 abbrev pub has_equals : List ℕ → Bool
 has_equals text = list_any is_equals text
 
--- the options with a value that `run` alone takes, without their dashes
+-- the options with a value that `run` and `resume` alone take, without their dashes
 abbrev pub run_names : List (List ℕ)
 run_names =
     codes "frame" ∷ codes "workers" ∷ codes "shard" ∷ codes "attempts" ∷ codes "budget" ∷ codes "skip" ∷ codes "kill" ∷ codes "twice" ∷ []

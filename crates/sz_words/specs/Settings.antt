@@ -124,7 +124,7 @@ run_settings given names =
     then option_and_then (λ files. run_with given files.0 files.1) (files_in (value_of given (codes "proto")) names)
     else None
 
--- whether `--proto` stands once at the most, and no option of `run` alone
+-- whether `--proto` stands once at the most, and no option of `run` and `resume` alone
 abbrev pub is_proto_alone : Values → Bool
 is_proto_alone given = stand_at_most 0 given run_names && stand_at_most 1 given (codes "proto" ∷ [])
 

@@ -1,4 +1,4 @@
-//! What a command line asks for.
+//! What a command line asks for, read from its words.
 ghost use Rattle.std.specs.Prelude.{◌≡◌, map, not, true, false, string_bytes, IfOk, IfErr, Some, None};
 ghost use Rattle.std.specs.Prelude.{option_map, IfSome, if◌then◌else◌};
 ghost use Rattle.sz_words.specs.Matches.{names_in, values_in};
@@ -288,7 +288,7 @@ fn check_settings(
     }
 }
 
-// Whether `--proto` stands once at the most, and no option of `run` alone.
+// Whether `--proto` stands once at the most, and no option of `run` and `resume` alone.
 fn is_proto_alone(options: &ArgMatches) -> bool
     ensures value { result ≡ is_proto_alone (values_in options.now) }
 {

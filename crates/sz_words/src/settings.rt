@@ -1,4 +1,4 @@
-//! What a command line asks for.
+//! What a command line asks for, as plain data.
 use sz_list::Items;
 use sz_types::{Frame, Text};
 

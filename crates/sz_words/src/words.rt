@@ -16,7 +16,7 @@ use clap::error::ErrorKind;
 use clap::{Arg, ArgAction, ArgMatches, Command, Error};
 use std::alloc::{AllocError, Global};
 
-/// The options with a value that `run` alone takes, without their dashes.
+/// The options with a value that `run` and `resume` alone take, without their dashes.
 pub const RUN_OPTIONS: [&str; 8] = [
     "frame", "workers", "shard", "attempts", "budget", "skip", "kill", "twice",
 ];

@@ -121,7 +121,7 @@ outcome_after name file asked reading cut merged = after_file name (outcome_of_f
 abbrev pub outcome_of_settings : Option Settings → FileReading → Reading → Cut → Merged → Answer
 outcome_of_settings asked file reading cut merged = outcome_after (proto_asked asked) file asked reading cut merged
 
--- the outcome of a command line, from its words, the readings of the `.proto` file and of the program's text, the input, which is cut so, and
--- what joining files comes to
+-- the outcome of a command line without a disk, from its words, the readings of the `.proto` file and of the program's text, the input, which
+-- is cut so, and what joining files comes to; of `resume` see Resuming.antt
 abbrev pub outcome : List (List ℕ) → FileReading → Reading → Cut → Merged → Answer
 outcome words file reading cut merged = outcome_of_settings (settings_in words) file reading cut merged

@@ -36,7 +36,7 @@ HasOneFileReading = (bytes : List ℕ) (a b : FileReading) → IsFileRead bytes 
 
 -- ---- what settings ask for
 
--- the name of the `.proto` file that is asked for, if one is
+-- the name of the `.proto` file that is asked for without a disk, if one is; of `resume` see Resuming.antt
 abbrev pub proto_asked : Option Settings → Option (List ℕ)
 proto_asked (Some (Run s)) = s.proto
 proto_asked (Some (Check program proto)) = proto

@@ -7,7 +7,7 @@ use Rattle.sz_words.specs.declared.settings.Settings.{Settings}
 use Rattle.sz_words.specs.declared.settings.Settings.TheVariants.{Run, Selftest}
 use Rattle.sz_words.specs.Settings.{default_shard}
 
--- how the records of the input are told apart: as lines, where nothing else is asked for
+-- how the records of the input are told apart without a disk: as lines, where nothing else is asked for; of `resume` see Resuming.antt
 abbrev pub frame_asked : Option Settings → Frame
 frame_asked (Some (Run s)) = s.frame
 frame_asked (Some (Selftest seed records workers)) = Delimited

@@ -14,7 +14,7 @@ const LOW: u32 = 500;
 /// How much stack the caller of the top call has.
 #[derive(Clone, Copy, Debug, PartialEq, Eq)]
 pub enum Stack {
-    /// Enough for every type that the text of a program may have: 256 MB.
+    /// Enough for every type that the text of a program may have: at least 256 MiB.
     Large,
     /// No more than the system gives to a program, as a larger one couldn't be had. It is enough where all types are low.
     Small,

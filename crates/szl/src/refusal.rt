@@ -1,4 +1,4 @@
-//! Why a program is refused.
+//! Why a program is refused, in the answer of `szl`.
 ghost use Rattle.std.specs.Prelude.{◌≡◌, ◌++◌, IfOk, OnOk};
 ghost use Rattle.szl.specs.Judgement.{refusal_at};
 ghost use Rattle.szl.specs.Answers.{place_text};

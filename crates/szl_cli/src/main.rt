@@ -1,4 +1,5 @@
-//! `szl` runs a program over the records of a file, and prints its tables; or it checks a program.
+//! `szl` runs a program over the records of a file, also as a job that is resumed, and prints or saves its tables; or it checks a program,
+//! joins saved tables, or tests itself.
 #![tactic(auto)]
 
 mod streams;

@@ -1,4 +1,4 @@
-//! Why a program is refused.
+//! Why a program is refused, in what `szl-explain` says.
 ghost use Rattle.std.specs.Prelude.{◌≡◌, ◌++◌, [], IfOk, OnOk};
 ghost use Rattle.std.specs.Option.{unwrap_or};
 ghost use Rattle.szl_explain_judge.specs.Refusing.{name_text, place_text, refusal_at, refusal_line};
