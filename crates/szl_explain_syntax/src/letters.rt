@@ -75,7 +75,7 @@ pub fn say_literal(page: &mut Page, text: &[u8], place: Place) {
     page.line(text, place, 1);
     match rest {
         [b'0', b'x' | b'X', ..] => page.say(
-            "A number to the base 16 has from 1 to 16 digits after `0x`, and no letter after them.\n",
+            "A number to the base 16 has one or more digits after `0x`, is below 2^64, and has no letter after them.\n",
         ),
         [b'0', b'0'..=b'9', ..] => page.say(
             "A number has no 0 in front, unless it is 0. Hint: leave it out.\n",
