@@ -16,7 +16,7 @@ use crate::flags::{Flag, flags_apart};
 use crate::lists::{kills_in, shards_in};
 use crate::numbers::{number_in, small_number_in};
 use crate::settings::{DEFAULT_SHARD, Kills, RunSettings, Settings, Twice};
-use crate::words::{OPTIONS, RUN_OPTIONS, matches_of, stand_at_most, value_of};
+use crate::words::{OPTIONS, matches_of, stand_at_most, value_of};
 use clap::ArgMatches;
 use std::alloc::Global;
 use sz_list::Items;
@@ -292,7 +292,7 @@ fn check_settings(
 fn is_proto_alone(options: &ArgMatches) -> bool
     ensures value { result ≡ is_proto_alone (values_in options.now) }
 {
-    stand_at_most(options, 0, &RUN_OPTIONS) && stand_at_most(options, 1, &["proto"])
+    stand_at_most(options, 0, &OPTIONS[1..]) && stand_at_most(options, 1, &["proto"])
 }
 
 // What is asked for by `selftest SEED RECORDS WORKERS`, which takes no options.

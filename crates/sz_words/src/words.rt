@@ -16,12 +16,7 @@ use clap::error::ErrorKind;
 use clap::{Arg, ArgAction, ArgMatches, Command, Error};
 use std::alloc::{AllocError, Global};
 
-/// The options with a value that `run` and `resume` alone take, without their dashes.
-pub const RUN_OPTIONS: [&str; 8] = [
-    "frame", "workers", "shard", "attempts", "budget", "skip", "kill", "twice",
-];
-
-/// The options with a value, without their dashes.
+/// The options with a value, without their dashes: `--proto` first, and then those that `run` and `resume` alone take.
 pub const OPTIONS: [&str; 9] = [
     "proto", "frame", "workers", "shard", "attempts", "budget", "skip", "kill", "twice",
 ];
