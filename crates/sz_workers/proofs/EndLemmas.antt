@@ -20,7 +20,7 @@ use Rattle.sz_rounds.specs.Rounds.{shards_of, IsRound, EndsRound}
 use Rattle.sz_rounds.proofs.OutcomeLemmas.{none_beyond}
 use Rattle.sz_rounds.proofs.RoundLemmas.{length-numbered, numbered_at, same_there}
 use Rattle.sz_workers.specs.declared.first_faults.FirstFaults.{FirstFaults}
-use Rattle.sz_workers.specs.declared.rest.Rest.TheVariants as rests
+use Rattle.sz_workers.specs.declared.round_end.Rest.TheVariants as rests
 use Rattle.sz_workers.specs.FirstOfBoth.{IsFirstOfBoth}
 use Rattle.sz_workers.specs.Parts.{HoldsShards}
 use Rattle.sz_workers.specs.RoundRuns.{IsSet, AreWords, HasFront, NoneInFront, RestEnds, one_too_many, in_front}

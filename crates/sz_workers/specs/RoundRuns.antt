@@ -11,8 +11,8 @@ use Rattle.sz_attempt.specs.Ends.{StandForEmits, seen_faults}
 use Rattle.sz_rounds.specs.declared.round.Round.{Round}
 use Rattle.sz_rounds.specs.Outcomes.{faults_in}
 use Rattle.sz_rounds.specs.Rounds.{shards_of, IsRound}
-use Rattle.sz_workers.specs.declared.rest.Rest.{Rest}
-use Rattle.sz_workers.specs.declared.rest.Rest.TheVariants as rests
+use Rattle.sz_workers.specs.declared.round_end.Rest.{Rest}
+use Rattle.sz_workers.specs.declared.round_end.Rest.TheVariants as rests
 use Rattle.sz_workers.specs.Parts.{plan_for, emits_at, faults_at, Counts, Bad, Dies}
 
 -- the job and the round are the named ones, and can be run, with no more records passed over in front than may be; the plan is theirs

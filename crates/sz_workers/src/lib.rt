@@ -6,7 +6,7 @@ mod first_faults;
 mod making;
 mod part;
 mod pool;
-mod rest;
+mod round_end;
 mod round_run;
 mod worker;
 

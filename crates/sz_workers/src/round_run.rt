@@ -13,7 +13,7 @@ ghost use Rattle.sz_workers.specs.Starting.{CanWork, lanes_for};
 
 use crate::part::{RoundName, RoundPart, empty_lane};
 use crate::pool::{empty_pool, pour_all};
-use crate::rest::finish;
+use crate::round_end::finish;
 use crate::worker::{Back, Worker};
 use std::alloc::Global;
 use std::marker::Brand;

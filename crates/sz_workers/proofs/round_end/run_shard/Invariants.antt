@@ -1,5 +1,5 @@
 use Rattle.sz_workers.proofs.RestLemmas.{AllDied}
-use Rattle.sz_workers.proofs.rest.run_shard.Given as goal
+use Rattle.sz_workers.proofs.round_end.run_shard.Given as goal
 
 -- the attempts so far died
 abbrev pub invariant-loop-number : goal.invariant-loop-number

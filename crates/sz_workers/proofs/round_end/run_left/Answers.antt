@@ -5,7 +5,7 @@ use Rattle.sz_workers.specs.declared.first_faults.FirstFaults.{FirstFaults}
 use Rattle.sz_workers.specs.RoundRuns.{RestEnds}
 use Rattle.sz_workers.proofs.RestLemmas.{lost_ends}
 use Rattle.sz_workers.proofs.EndLemmas.{part_is_one, bad_within, bad_is_end}
-use Rattle.sz_workers.proofs.rest.run_left.Goals as goal
+use Rattle.sz_workers.proofs.round_end.run_left.Goals as goal
 
 -- all its attempts died, and none in front decides
 pub returns-in-Lost-clause-value : goal.returns-in-Lost-clause-value

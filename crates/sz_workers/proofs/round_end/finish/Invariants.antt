@@ -1,6 +1,6 @@
 use Rattle.sz_workers.specs.Parts.{HoldsShards}
 use Rattle.sz_workers.specs.RoundRuns.{IsPooled}
-use Rattle.sz_workers.proofs.rest.finish.Given as goal
+use Rattle.sz_workers.proofs.round_end.finish.Given as goal
 
 -- all shards in front are in the pool
 abbrev pub invariant-loop-place : goal.invariant-loop-place

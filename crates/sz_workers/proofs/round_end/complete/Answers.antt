@@ -4,7 +4,7 @@ use Rattle.sz_rounds.specs.Rounds.{shards_of, EndsRound}
 use Rattle.sz_workers.specs.RoundRuns.{one_too_many, in_front}
 use Rattle.sz_workers.proofs.RestLemmas.{words_there, word_at, word_tells, some_word, few_attempts, pooled_settled, pooled_more, pooled_absent}
 use Rattle.sz_workers.proofs.EndLemmas.{front_decides, none_in_front, lost_by_words}
-use Rattle.sz_workers.proofs.rest.complete.Goals as goal
+use Rattle.sz_workers.proofs.round_end.complete.Goals as goal
 
 -- each shard has its words
 pub get-requires : goal.get-requires

@@ -1,7 +1,7 @@
 use Rattle.std.proofs.Common.{subst, arith}
 use Rattle.sz_workers.specs.Ends.{IsEndOf}
 use Rattle.sz_workers.proofs.RestLemmas.{bad_ends, part_ends, lost_there}
-use Rattle.sz_workers.proofs.rest.run_shard.Goals as goal
+use Rattle.sz_workers.proofs.round_end.run_shard.Goals as goal
 
 pub returns-in-Bad : goal.returns-in-Bad
 returns-in-Bad g c =

@@ -1,4 +1,4 @@
-//! What is left of a round once its workers are done: the shards that no worker settled.
+//! The end of a round whose workers are done: the shards that none of them settled, and what comes of all.
 ghost use Rattle.std.specs.Prelude.{◌≡◌, ◌++◌, ◌∷◌, [], ◌+◌, ◌-◌, ◌^◌, ◌<◌, ◌≤◌, ◌==◌, length, IfOk, IfSome, IfNone};
 ghost use Rattle.sz_attempt.specs.Shards.{IsJob};
 ghost use Rattle.sz_rounds.specs.Outcomes.{outcome_from};

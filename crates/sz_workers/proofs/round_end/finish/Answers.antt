@@ -3,7 +3,7 @@ use Rattle.sz_rounds.specs.Outcomes.{outcome_from}
 use Rattle.sz_rounds.specs.Rounds.{shards_of, EndsRound}
 use Rattle.sz_workers.specs.RoundRuns.{one_too_many}
 use Rattle.sz_workers.proofs.EndLemmas.{few_skipped, fault_decides, tables_end}
-use Rattle.sz_workers.proofs.rest.finish.Goals as goal
+use Rattle.sz_workers.proofs.round_end.finish.Goals as goal
 
 -- of all shards together one record is too many
 pub returns-in-Some-one_too_many : goal.returns-in-Some-one_too_many

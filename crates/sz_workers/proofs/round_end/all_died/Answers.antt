@@ -1,6 +1,6 @@
 use Rattle.std.proofs.Common.{ℕ, ◌-◌, ◌==◌, ap, arith}
 use Rattle.std.proofs.lemmas.Nat.{one_shl, pow_pos}
-use Rattle.sz_workers.proofs.rest.all_died.Goals as goal
+use Rattle.sz_workers.proofs.round_end.all_died.Goals as goal
 
 -- there are so many bits
 pub overflow_sub-result : goal.overflow_sub-result
