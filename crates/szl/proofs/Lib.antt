@@ -3,6 +3,7 @@ mod AfterRoundsLemmas
 mod AnswerLemmas
 mod BoundLemmas
 mod CompleteLemmas
+mod DeathsLemmas
 mod EndedLemmas
 mod EndingLemmas
 mod FileLemmas

@@ -3,6 +3,7 @@ pub mod Settings
 pub mod Records
 pub mod Shards
 pub mod Workers
+pub mod Deaths
 pub mod Judgement
 pub mod Checking
 pub mod Reserved

@@ -24,8 +24,8 @@ mod top;
 pub use heights::Stack;
 pub use in_memory::szl_in_memory;
 pub use laws::{
-    files_are_read_once, merged_runs_are_one_run, merging_ends_once, outcomes_forget_the_workers,
-    readings_are_unique, sizes_are_shards,
+    files_are_read_once, merged_runs_are_one_run, merging_ends_once, outcomes_forget_the_deaths,
+    outcomes_forget_the_workers, readings_are_unique, sizes_are_shards,
 };
 pub use status::Status;
 pub use top::{szl_disk_main, szl_disk_main_on, szl_main, szl_main_on};
