@@ -5,11 +5,15 @@ use sz_core::{Item, Program};
 use sz_gen_stmt::Compiled;
 use sz_lex::{Kind, Sign, Token, Word};
 use sz_protofile_types::NamedType;
-use sz_types::{Field, TableDecl, Ty, Tys};
+use sz_types::{Field, TableDecl, Ty};
 
 /// Up to this height a type is low: the stack that a system gives to a thread is enough for values of many times this height. In one
 /// expression values get at most as much higher as a statement is high.
 const LOW: u32 = 500;
+
+/// So many parts of types are gone through at most to see whether types are low. A type shares its parts with others, so that with each line of a
+/// program one may have twice as many as before, with all names written out.
+const MOST_PARTS: u32 = 1_048_576;
 
 /// How much stack the caller of the top call has.
 #[derive(Clone, Copy, Debug, PartialEq, Eq)]
@@ -65,91 +69,100 @@ fn are_declared_low(tokens: &[Token]) -> bool {
     levels <= LOW
 }
 
-/// Whether the type has at most this height.
+/// How many parts may still be gone through after those of the type, if it has at most this height; none where it is higher, or has more parts than
+/// may be gone through.
 #[cycle(height)]
-fn is_low(ty: &Ty, most: u32) -> bool {
-    if most == 0 {
-        return false;
+fn past_type(ty: &Ty, most: u32, left: u32) -> Option<u32> {
+    if most == 0 || left == 0 {
+        return None;
     }
     match ty {
-        Ty::Bool | Ty::Int | Ty::Time | Ty::Str | Ty::Bytes => true,
-        Ty::Array(element) => is_low(element, most - 1),
-        Ty::Map(key, value) => is_low(key, most - 1) && is_low(value, most - 1),
-        Ty::Tuple(fields) | Ty::Proto(fields) => are_fields_low(fields.as_slice(), most - 1),
+        Ty::Bool | Ty::Int | Ty::Time | Ty::Str | Ty::Bytes => Some(left - 1),
+        Ty::Array(element) => past_type(element, most - 1, left - 1),
+        Ty::Map(key, value) => past_type(value, most - 1, past_type(key, most - 1, left - 1)?),
+        Ty::Tuple(fields) | Ty::Proto(fields) => past_fields(fields.as_slice(), most - 1, left - 1),
     }
 }
 
-/// Whether the types of the fields have at most this height.
+/// The same after the types of the fields.
 #[cycle(height)]
-fn are_fields_low(fields: &[Field], most: u32) -> bool {
+fn past_fields(fields: &[Field], most: u32, left: u32) -> Option<u32> {
+    let mut left = left;
     for field in fields {
-        if !is_low(&field.ty, most) {
-            return false;
-        }
+        left = past_type(&field.ty, most, left)?;
     }
-    true
+    Some(left)
 }
 
-/// Whether the types are low.
-fn are_low(types: &Tys) -> bool {
-    for ty in types.as_slice() {
-        if !is_low(ty, LOW) {
-            return false;
-        }
+/// The same after the types, if they are low.
+fn past_types(types: &[Ty], left: u32) -> Option<u32> {
+    let mut left = left;
+    for ty in types {
+        left = past_type(ty, LOW, left)?;
     }
-    true
+    Some(left)
 }
 
-/// Whether the types with these names are low.
-fn are_named_low(types: &[NamedType]) -> bool {
-    for named in types {
-        if !is_low(&named.ty, LOW) {
-            return false;
-        }
-    }
-    true
-}
-
-/// Whether the types of a table are low.
-fn is_table_low(table: &TableDecl) -> bool {
-    let weight = match &table.weight {
-        Some(ty) => is_low(ty, LOW),
-        None => true,
+/// The same after the types of a table.
+fn past_table(table: &TableDecl, left: u32) -> Option<u32> {
+    let left = match &table.weight {
+        Some(ty) => past_type(ty, LOW, left)?,
+        None => left,
     };
-    weight && is_low(&table.element, LOW) && are_low(&table.indexes)
+    past_types(
+        table.indexes.as_slice(),
+        past_type(&table.element, LOW, left)?,
+    )
 }
 
-/// Whether the types that an item declares are low.
-fn is_item_low(item: &Item) -> bool {
+/// The same after the types that an item declares.
+fn past_item(item: &Item, left: u32) -> Option<u32> {
     match item {
-        Item::Table(table) => is_table_low(table),
-        Item::Function(function) => {
-            is_low(&function.signature.result, LOW) && are_low(&function.locals)
-        }
-        Item::Static(of) => is_low(&of.ty, LOW),
-        Item::Statement(_) => true,
+        Item::Table(table) => past_table(table, left),
+        Item::Function(function) => past_types(
+            function.locals.as_slice(),
+            past_type(&function.signature.result, LOW, left)?,
+        ),
+        Item::Static(of) => past_type(&of.ty, LOW, left),
+        Item::Statement(_) => Some(left),
     }
 }
 
-/// Whether all types are low that the program declares.
-pub fn declares_low(program: &Program) -> bool {
+/// The same after the types that the program declares.
+fn past_program(program: &Program, left: u32) -> Option<u32> {
+    let mut left = left;
     for item in program.items() {
-        if !is_item_low(item) {
-            return false;
-        }
+        left = past_item(item, left)?;
     }
-    are_low(program.locals())
+    past_types(program.locals().as_slice(), left)
 }
 
-/// How many workers run a program, of so many that are asked for: where a type is high that it declares or converts to, it is the one
-/// that has the caller's stack.
+/// Whether the types with these names are low. A `.proto` file has at most 100,000 fields with all names written out, so all parts are gone through.
+fn are_named_low(types: &[NamedType]) -> bool {
+    let mut left = MOST_PARTS;
+    for named in types {
+        match past_type(&named.ty, LOW, left) {
+            Some(rest) => left = rest,
+            None => return false,
+        }
+    }
+    true
+}
+
+/// Whether all types that the program declares are seen to be low: the answer is no, too, where they have more parts than are gone through.
+pub fn declares_low(program: &Program) -> bool {
+    past_program(program, MOST_PARTS).is_some()
+}
+
+/// How many workers run a program, of so many that are asked for: where not all types that it declares and converts to are seen to be low, it is
+/// the one that has the caller's stack.
 pub fn workers_for(declares_low: bool, compiled: &Compiled, workers: u32) -> u32
     requires some { 1 ≤ workers }
     requires most { workers ≤ 64 }
     ensures some { 1 ≤ result }
     ensures most { result ≤ 64 }
 {
-    if declares_low && are_low(&compiled.code().types) {
+    if declares_low && past_types(compiled.code().types.as_slice(), MOST_PARTS).is_some() {
         workers
     } else {
         1

@@ -2,8 +2,8 @@
 use Rattle.std.proofs.Common.{◌+◌, ◌*◌}
 use Rattle.szl.proofs.heights.+height.Given as goal
 
-abbrev pub decreases-is_low : goal.decreases-is_low
-decreases-is_low l = 2 * l.most
+abbrev pub decreases-past_type : goal.decreases-past_type
+decreases-past_type l = 2 * l.most
 
-abbrev pub decreases-are_fields_low : goal.decreases-are_fields_low
-decreases-are_fields_low l = 2 * l.most + 1
+abbrev pub decreases-past_fields : goal.decreases-past_fields
+decreases-past_fields l = 2 * l.most + 1
