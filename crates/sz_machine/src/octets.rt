@@ -1,20 +1,24 @@
 //! What common lines do to bytes that lie in a buffer, or in a value that stays with its owner: they are measured, searched, read as a number
-//! and cut where they lie, and no slot is made around what comes of it. Each is done wholly or not at all; no clause says when.
-ghost use Rattle.std.specs.Prelude.{◌≡◌, ◌<◌, ◌≤◌, length};
+//! or a text, and cut where they lie, and no slot is made around what comes of it. Each is done wholly or not at all; no clause says when.
+ghost use Rattle.std.specs.Prelude.{◌≡◌, ◌<◌, ◌≤◌, length, Some, IfSome, true};
+ghost use Rattle.std.specs.Str.{is_utf8};
 ghost use Rattle.std.specs.Option.{option_map};
 ghost use Rattle.sz_instr.specs.declared.code.Code.{Code};
 ghost use Rattle.sz_instr.specs.declared.instr.Instr.TheVariants as instr;
 ghost use Rattle.sz_types.specs.Rows.{arity};
 ghost use Rattle.sz_types.specs.declared.operator.Builtin.TheVariants.{Len, StrFind};
-ghost use Rattle.sz_value.specs.Data.{int};
+ghost use Rattle.sz_value.specs.Data.{int, str};
+ghost use Rattle.sz_value.specs.Weight.{weight_of};
 ghost use Rattle.sz_builtin.specs.Conversions.{number_in};
 ghost use Rattle.sz_machine.specs.Acting.{DoesIf, weighs_and_acts};
 
 use crate::run_state::RunState;
+use std::alloc::Global;
 use sz_builtin::{number_in, place_of_bytes};
 use sz_instr::Code;
 use sz_machine_cells::Cell;
 use sz_types::{Builtin, Ty};
+use sz_value::{Text, Value};
 
 impl<'a> RunState<'a> {
     /// Puts the length of the topmost bytes in their stead; or the place at which the bytes below stand in them, in the stead of both.
@@ -57,9 +61,22 @@ impl<'a> RunState<'a> {
         true
     }
 
-    /// Puts the number that the topmost bytes spell in their stead, if the type is that of whole numbers.
+    /// Puts what the topmost bytes become by a conversion to the type in their stead: the number that they spell, or the text that they are.
     #[inline(never)]
-    pub fn read_number(&mut self, code: &Code, ty: u32) -> bool
+    pub fn convert_octets(&mut self, alloc: Global, code: &Code, ty: u32) -> bool
+        requires within { ty < length code.now.types }
+        requires some { 0 < length self.old.operands }
+        ensures value { DoesIf result (weighs_and_acts code.now (instr.Convert ty)) self.old self.new }
+    {
+        if self.read_number(code, ty) {
+            return true;
+        }
+        self.read_text(alloc, code, ty)
+    }
+
+    // Puts the number that the topmost bytes spell in their stead, if the type is that of whole numbers.
+    #[inline(always)]
+    fn read_number(&mut self, code: &Code, ty: u32) -> bool
         requires within { ty < length code.now.types }
         requires some { 0 < length self.old.operands }
         ensures value { DoesIf result (weighs_and_acts code.now (instr.Convert ty)) self.old self.new }
@@ -72,6 +89,32 @@ impl<'a> RunState<'a> {
         };
         let number = number_cell(octets);
         self.operands.put_on_top(number);
+        true
+    }
+
+    // Puts the text that the topmost bytes are in their stead, if the type is that of texts, the bytes are UTF-8, there is memory, and the ticks for
+    // it are left.
+    #[inline(never)]
+    fn read_text(&mut self, alloc: Global, code: &Code, ty: u32) -> bool
+        requires within { ty < length code.now.types }
+        requires some { 0 < length self.old.operands }
+        ensures value { DoesIf result (weighs_and_acts code.now (instr.Convert ty)) self.old self.new }
+    {
+        let Ty::Str = code.types.get(ty as usize) else {
+            return false;
+        };
+        let Some(octets) = self.operands.top_octets() else {
+            return false;
+        };
+        let weight = text_weight(octets);
+        if weight > self.left {
+            return false;
+        }
+        let Some(made) = text_cell(alloc, octets) else {
+            return false;
+        };
+        self.left -= weight;
+        self.operands.put_on_top(made);
         true
     }
 
@@ -100,5 +143,32 @@ fn number_cell<'a>(octets: &[u8]) -> Cell<'a>
     match number_in(octets) {
         Some(number) => Cell::of_int(number),
         None => Cell::undefined(),
+    }
+}
+
+// What a text of these bytes weighs.
+#[inline(always)]
+fn text_weight(octets: &[u8]) -> u64
+    ensures value { result ≡ weight_of (str octets.now) }
+{
+    (octets.len() as u64).saturating_add(1)
+}
+
+// The cell of the text that bytes are, if they are UTF-8 and there is memory.
+#[inline(always)]
+#[tactic(auto, using(crate::proofs::QuickLemmas::is_text))]
+fn text_cell<'a>(alloc: Global, octets: &[u8]) -> Option<Cell<'a>>
+    ensures value { IfSome result (λ made. made ≡ Some (str octets.now)) }
+    ensures utf8 { IfSome result (λ made. is_utf8 octets.now ≡ true) }
+{
+    let Ok(read) = simdutf8::basic::from_utf8(octets) else {
+        return None;
+    };
+    let Ok(text) = Text::new(alloc, read) else {
+        return None;
+    };
+    match Cell::of_value(alloc, Value::Str(text)) {
+        Ok(cell) => Some(cell),
+        Err(_) => None,
     }
 }
