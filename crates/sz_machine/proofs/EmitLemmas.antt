@@ -12,8 +12,10 @@ use Rattle.sz_world_rules.specs.Slots.{Slot, all_defined}
 use Rattle.sz_world_rules.specs.Ticks.{weight_of_all, result_weight}
 use Rattle.sz_world_rules.specs.Emits.{emit_by_weight, emit_or_line, emit_weight, emit_weighted, with_emit, weight_number, weight_if_all, listed}
 use Rattle.sz_machine_rules.specs.States.{State, Goes, popped, faults}
-use Rattle.sz_machine.specs.Acting.{when_paid, weighs_and_acts}
-use Rattle.sz_machine.specs.Emitting.{parts_weight, emits_paid, emits_parts, emits_on_top}
+use Rattle.sz_machine.specs.declared.run_state.RunState.{RunState}
+use Rattle.sz_machine.specs.declared.run_state.Onward.TheVariants.{On}
+use Rattle.sz_machine.specs.Acting.{Around, Paid, DoesAt, world_of, state_of, when_paid, weighs_and_acts}
+use Rattle.sz_machine.specs.Emitting.{parts_weight, emits_made, emits_paid, emits_parts, emits_on_top}
 
 -- nothing is emitted without indexes
 pub no_indexes : (table : ℕ) (value : Slot) (weight : Option Slot) → emit_by_weight table None value weight ≡ None
@@ -62,6 +64,29 @@ without_weight None x w e = refl
 without_weight (Some ds) None w e = refl
 without_weight (Some ds) (Some v) None e = refl
 without_weight (Some ds) (Some v) (Some w) e = absurd (cc)
+
+-- a value alone adds what it weighs
+alone_weighs : (x : Slot) → result_weight x ≡ parts_weight (Some []) x None
+alone_weighs None = refl
+alone_weighs (Some v) = omega arith
+
+-- an index and a value add both weights
+pub one_weighs : (i x : Slot) → is_some i ≡ true → is_some x ≡ true → result_weight i + result_weight x ≡ parts_weight (all_defined (i ∷ [])) x None
+one_weighs None x e f = absurd (cc)
+one_weighs (Some d) None e f = absurd (cc)
+one_weighs (Some d) (Some v) e f = omega arith
+
+-- without the index they add nothing
+pub without_one : (i x : Slot) → is_some i ≡ false → 0 ≡ parts_weight (all_defined (i ∷ [])) x None
+without_one None x e = refl
+without_one (Some d) x e = absurd (cc)
+
+-- nothing is emitted where the value or the index isn't there
+pub lacks_value : (table : ℕ) (indexes : Option (List Datum)) (x : Slot) → x ≡ None → emit_by_weight table indexes x None ≡ None
+lacks_value table indexes x e = ap (λ v. emit_by_weight table indexes v None) e ∙ no_value table indexes None
+
+pub lacks_index : (table : ℕ) (i x : Slot) → i ≡ None → emit_by_weight table (all_defined (i ∷ [])) x None ≡ None
+lacks_index table i x e = ap (λ j. emit_by_weight table (all_defined (j ∷ [])) x None) e
 
 -- the values of two lists, if all are there
 abbrev joined : Option (List Datum) → Option (List Datum) → Option (List Datum)
@@ -203,3 +228,53 @@ module _ (code : Code) (table : ℕ) (place : Place) where
       at_hand l is =
           subst (λ l. emits_on_top code.ignore table 0 None place (record s { stack = l }) ≡ emits_parts code.ignore table (Some []) x None place (record s { stack = rest }))
           (sym is) refl
+
+  -- one whose weight isn't left
+  pub alone_unpaid : (s : State) (x : Slot) (rest : List Slot) → s.stack ≡ x ∷ rest → spend (result_weight x) s.world ≡ None
+      → weighs_and_acts code (Emit table 0 false) place s ≡ faults budget_passed place
+  alone_unpaid s x rest is none =
+      emit_without code table 0 place s x rest is ∙ top_unpaid code.ignore table 0 None place s x rest is (subst (λ n. spend n s.world ≡ None) (alone_weighs x) none)
+
+  -- a value under one index, whose weight isn't left
+  pub one_unpaid : (s : State) (x i : Slot) (below rest : List Slot) → s.stack ≡ x ∷ below → below ≡ i ∷ rest
+      → spend (parts_weight (all_defined (i ∷ [])) x None) s.world ≡ None → weighs_and_acts code (Emit table 1 false) place s ≡ faults budget_passed place
+  one_unpaid s x i below rest is then none =
+      emit_without code table 1 place s x below is ∙ top_unpaid code.ignore table 1 None place s x below is
+      (subst (λ l. spend (parts_weight (all_defined (popped 1 l)) x None) s.world ≡ None) (sym then) none)
+
+  -- one whose weight is taken
+  one_paid : (s : State) (x i : Slot) (below rest : List Slot) (v : World) → s.stack ≡ x ∷ below → below ≡ i ∷ rest
+      → spend (parts_weight (all_defined (i ∷ [])) x None) s.world ≡ Some v
+      → weighs_and_acts code (Emit table 1 false) place s ≡ emits_paid code.ignore table (all_defined (i ∷ [])) x None place (record s { stack = rest; world = v })
+  one_paid s x i below rest v is then some =
+      subst (λ l. weighs_and_acts code (Emit table 1 false) place s
+      ≡ emits_paid code.ignore table (all_defined (popped 1 l)) x None place (record s { stack = drop 1 l; world = v })) then
+      (emit_without code table 1 place s x below is ∙ top_paid code.ignore table 1 None place s x below is v
+      (subst (λ l. spend (parts_weight (all_defined (popped 1 l)) x None) s.world ≡ Some v) (sym then) some))
+
+  -- the run in place after the ticks were taken
+  there : (old paid : RunState) (rest : List Slot) (ticks : ℕ) (a : Around) → Paid ticks (record old { operands = rest }) true paid
+      → record (state_of old a) { stack = rest; world = world_of paid } ≡ state_of paid a
+  there old paid rest ticks a p =
+      ap (λ (h : RunState). record (state_of old a) { stack = rest; world = world_of h }) p.kept ∙ sym (ap (λ (h : RunState). state_of h a) p.kept)
+
+  -- a value alone whose ticks were taken and which then was emitted
+  pub alone_done : (old paid new : RunState) (x : Slot) (rest : List Slot) → old.operands ≡ x ∷ rest
+      → Paid (result_weight x) (record old { operands = rest }) true paid
+      → DoesAt place (emits_made code.ignore (emit_by_weight table (Some []) x None)) paid On new
+      → DoesAt place (weighs_and_acts code (Emit table 0 false)) old On new
+  alone_done old paid new x rest is p does = λ a.
+      emit_without code table 0 place (state_of old a) x rest is
+      ∙ (top_paid code.ignore table 0 None place (state_of old a) x rest is (world_of paid)
+      (subst (λ n. spend n (world_of old) ≡ Some (world_of paid)) (alone_weighs x) p.spent)
+      ∙ (ap (emits_made code.ignore (emit_by_weight table (Some []) x None) place) (there old paid rest (result_weight x) a p) ∙ does a))
+
+  -- a value under one index, in the same way
+  pub one_done : (old paid new : RunState) (x i : Slot) (below rest : List Slot) → old.operands ≡ x ∷ below → below ≡ i ∷ rest
+      → Paid (parts_weight (all_defined (i ∷ [])) x None) (record old { operands = rest }) true paid
+      → DoesAt place (emits_made code.ignore (emit_by_weight table (all_defined (i ∷ [])) x None)) paid On new
+      → DoesAt place (weighs_and_acts code (Emit table 1 false)) old On new
+  one_done old paid new x i below rest is then p does = λ a.
+      one_paid (state_of old a) x i below rest (world_of paid) is then p.spent
+      ∙ (ap (emits_made code.ignore (emit_by_weight table (all_defined (i ∷ [])) x None) place)
+      (there old paid rest (parts_weight (all_defined (i ∷ [])) x None) a p) ∙ does a)

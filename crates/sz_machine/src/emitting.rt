@@ -23,7 +23,7 @@ use sz_value::{List, NoMemory, Value};
 
 impl<'a> RunState<'a> {
     /// Pops the parts of an emit to the table, and emits them if all are defined; else its line is counted, if the code counts lines.
-    /// A whole number alone is emitted in line.
+    /// A whole number alone is emitted in line, and what has at most one index by a call of its own.
     #[inline(always)]
     pub fn emit(
         &mut self,
@@ -40,12 +40,15 @@ impl<'a> RunState<'a> {
         if weighted {
             return Ok(if_paid(self.emit_any(alloc, code, place, table, indexes, weighted)?));
         }
+        if indexes == 1 {
+            return Ok(if_paid(self.emit_under_one(alloc, code, place, table)?));
+        }
         if indexes != 0 {
             return Ok(if_paid(self.emit_any(alloc, code, place, table, indexes, weighted)?));
         }
         match self.operands.top().int() {
             Some(number) => self.emit_top(alloc, table, number),
-            None => Ok(if_paid(self.emit_any(alloc, code, place, table, indexes, weighted)?)),
+            None => Ok(if_paid(self.emit_alone(alloc, code, place, table)?)),
         }
     }
 
@@ -57,6 +60,157 @@ impl<'a> RunState<'a> {
     {
         self.operands.drop_one();
         self.emit_number(alloc, table, number)
+    }
+
+    // Pops a value and emits it, with neither indexes nor a weight. Whether the ticks for it were left.
+    #[inline(never)]
+    #[tactic(auto, using(crate::proofs::EmitLemmas::alone_unpaid))]
+    fn emit_alone(
+        &mut self,
+        alloc: Global,
+        code: &Code,
+        place: Place,
+        table: u32,
+    ) -> Result<bool, NoMemory>
+        requires some { 0 < length self.old.operands }
+        ensures value { IfOk result (λ paid. DoesAt place (weighs_and_acts code.now (instr.Emit table 0 false)) self.old (if_paid paid) self.new) }
+    {
+        let value = self.operands.pop();
+        if !self.pay(result_weight(&value)) {
+            return Ok(false);
+        }
+        self.emit_paid(alloc, code, place, table, value)?;
+        Ok(true)
+    }
+
+    // Emits a value whose weight is taken, if it is there; else its line is counted, if the code counts lines.
+    #[inline(always)]
+    fn emit_paid(
+        &mut self,
+        alloc: Global,
+        code: &Code,
+        place: Place,
+        table: u32,
+        value: Cell<'a>,
+    ) -> Result<(), NoMemory>
+        ensures value { OnOk result (DoesAt place (emits_made code.now.ignore (emit_by_weight table (Some []) value.entry None)) self.old On self.new) }
+    {
+        match value.into_value(alloc)? {
+            Some(value) => self.emit_values(table, List::new(alloc), value),
+            None => self.emit_made(alloc, code, place, None),
+        }
+    }
+
+    // Pops a value and one index, and emits the value under it, without a weight. Whether the ticks for them were left.
+    #[inline(never)]
+    fn emit_under_one(
+        &mut self,
+        alloc: Global,
+        code: &Code,
+        place: Place,
+        table: u32,
+    ) -> Result<bool, NoMemory>
+        requires within { 1 < length self.old.operands }
+        ensures value { IfOk result (λ paid. DoesAt place (weighs_and_acts code.now (instr.Emit table 1 false)) self.old (if_paid paid) self.new) }
+    {
+        let value = self.operands.pop();
+        let index = self.operands.pop();
+        if !self.pay_two(&index, &value) {
+            return Ok(false);
+        }
+        self.emit_two(alloc, code, place, table, index, value)?;
+        Ok(true)
+    }
+
+    // Takes what an index and a value weigh together, if both are there.
+    #[inline(always)]
+    #[tactic(auto, using(crate::proofs::PayLemmas::pays_as, crate::proofs::EmitLemmas::one_weighs, crate::proofs::EmitLemmas::without_value, crate::proofs::EmitLemmas::without_one))]
+    fn pay_two(&mut self, index: &Cell<'_>, value: &Cell<'_>) -> bool
+        ensures value { Paid (parts_weight (all_defined (index.now ∷ [])) value.now None) self.old result self.new }
+    {
+        if !index.is_defined() || !value.is_defined() {
+            return true;
+        }
+        self.pay_both(index, value)
+    }
+
+    // Takes what two cells weigh.
+    #[inline(always)]
+    #[tactic(auto, using(crate::proofs::PayLemmas::paid_more, crate::proofs::PayLemmas::paid_less))]
+    fn pay_both(&mut self, index: &Cell<'_>, value: &Cell<'_>) -> bool
+        ensures value { Paid (result_weight index.now + result_weight value.now) self.old result self.new }
+    {
+        self.pay(result_weight(index)) && self.pay(result_weight(value))
+    }
+
+    // Emits a value under an index whose weights are taken, if both are there; else its line is counted, if the code counts lines.
+    #[inline(always)]
+    fn emit_two(
+        &mut self,
+        alloc: Global,
+        code: &Code,
+        place: Place,
+        table: u32,
+        index: Cell<'a>,
+        value: Cell<'a>,
+    ) -> Result<(), NoMemory>
+        ensures value { OnOk result (DoesAt place (emits_made code.now.ignore (emit_by_weight table (all_defined (index.entry ∷ [])) value.entry None))
+            self.old On self.new) }
+    {
+        match value.into_value(alloc)? {
+            Some(value) => self.emit_under(alloc, code, place, table, index, value),
+            None => self.emit_made(alloc, code, place, None),
+        }
+    }
+
+    // The same where the value is there.
+    #[inline(always)]
+    fn emit_under(
+        &mut self,
+        alloc: Global,
+        code: &Code,
+        place: Place,
+        table: u32,
+        index: Cell<'a>,
+        value: Value,
+    ) -> Result<(), NoMemory>
+        ensures value { OnOk result (DoesAt place (emits_made code.now.ignore (emit_by_weight table (all_defined (index.entry ∷ [])) (Some (seen value)) None))
+            self.old On self.new) }
+    {
+        match index.into_value(alloc)? {
+            Some(index) => {
+                let indexes = self.index_list(alloc, index)?;
+                self.emit_values(table, indexes, value)
+            }
+            None => self.emit_made(alloc, code, place, None),
+        }
+    }
+
+    // The list of one index.
+    #[inline(always)]
+    fn index_list(&mut self, alloc: Global, index: Value) -> Result<List, NoMemory>
+        ensures value { IfOk result (λ list. list ≡ seen index ∷ []) }
+        ensures kept { OnOk result (self.new ≡ self.old) }
+    {
+        let mut indexes = List::with_capacity(alloc, 1)?;
+        indexes.push(index)?;
+        Ok(indexes)
+    }
+
+    // Emits a value under these indexes, without a weight.
+    #[inline(always)]
+    fn emit_values(&mut self, table: u32, indexes: List, value: Value) -> Result<(), NoMemory>
+        ensures value { OnOk result (self.new ≡ record self.old {
+          emits = self.old.emits ++ record { table = table; indexes = indexes; value = seen value; weight = None } ∷ [];
+        }) }
+    {
+        self.emits.push(Emit {
+            table,
+            indexes,
+            value,
+            weight: None,
+        })?;
+        Ok(())
     }
 
     // The same of any parts. Whether the ticks for them were left.
