@@ -168,7 +168,7 @@ module _ {done : Done} {job : Job} {frame : Frame} {most : ℕ} {old : Intake} {
         sizes = [];
         are = tt;
         shards = refl;
-        few = omega arith;
+        fits = runs.no_shards (moved_on n old) refl;
         closed = refl;
         count = omega (arith, counted, fresh.first);
         ends = λ rest on.
@@ -216,7 +216,7 @@ module _ {done : Done} {job : Job} {frame : Frame} {most : ℕ} {old : Intake} {
 
         -- the round has few shards
         pub is_small : round.next_shard ≤ done.shards + 4096
-        is_small = omega (arith, next_shard_is, as_many, h.few, fresh.number)
+        is_small = omega (arith, next_shard_is, as_many, h.fits.few, fresh.number)
 
         -- the records at hand begin later
         pub further : old.first < old.first + old.closed

@@ -5,3 +5,4 @@ pub mod ClosingLemmas
 pub mod PassedLemmas
 pub mod RunLemmas
 pub mod ReachLemmas
+pub mod FillLemmas

@@ -27,7 +27,7 @@ use Rattle.sz_stream.specs.declared.intake.Intake.{Intake}
 use Rattle.sz_stream.specs.declared.stop.Stop.{Stop}
 use Rattle.sz_stream.specs.declared.stop.Stop.TheVariants as stops
 use Rattle.sz_stream.specs.Inputs.{nothing, GoesOn, RunsInput, RunsFile}
-use Rattle.sz_stream.specs.Intakes.{CanGoOn, IsFed, IsEmpty, KeepsRound, HasTaken, TakesIn, IsAnswered, Closes, moved_on, done_with, end_of}
+use Rattle.sz_stream.specs.Intakes.{CanGoOn, IsFed, IsEmpty, KeepsRound, HasTaken, TakesIn, IsFilled, IsAnswered, Closes, moved_on, done_with, end_of}
 use Rattle.sz_stream.specs.InputRuns.{IsRunning, Reaches, CanRead, HasRound, CanRun, Fills, left_to_read, ReadsPiece, HasTakenAll, TakesAll, IsReady}
 use Rattle.sz_stream.specs.InputRuns.{Gathers, RunsRound, EndsAt, MovesOn, StopsShards, ended_so}
 use Rattle.sz_stream.proofs.FedLemmas.{whole_is_over}
@@ -252,16 +252,17 @@ module _ (job : Job) (frame : Frame) (most : ℕ) (intake : Intake) (start left 
       by (stops.Damaged n) runs = record { read = r.read; over = r.over; consumed = r.consumed; at_end = r.at_end; runs = runs }
       by (stops.Limit n) runs = record { read = r.read; over = r.over; consumed = r.consumed; at_end = r.at_end; runs = runs }
 
--- where no piece is wanted, a round is ready
-pub is_ready : (intake : Intake) → CanRead intake → IsAnswered intake false → IsReady intake
-is_ready intake can (inl some) none = absurd (omega (arith, some, none))
+-- where no more has to be read, a round is ready
+pub is_ready : (intake : Intake) → CanRead intake → IsFilled intake → IsReady intake
+is_ready intake can (inl (inl many)) none = absurd (omega (arith, many, none))
+is_ready intake can (inl (inr full)) none = absurd (let some = full.some in omega (arith, some, none))
 is_ready intake can (inr all) none =
     let closed = none_closed can.done can.job can.frame can.most intake can.emits can.read can.over can.running none in
     (all.0, omega (arith, all.1, closed))
 
 pub ready_known : (intake : Intake) → CanRead intake → (wants : Bool) → is_some intake.ending ≡ true → IsAnswered intake wants → IsReady intake
 ready_known intake can false known answer none = is_ready intake can answer none
-ready_known intake can true known answer none = absurd (let no = sym (ap is_some answer) ∙ known in cc)
+ready_known intake can true known answer none = absurd (let no = sym (ap is_some answer.unknown) ∙ known in cc)
 
 pub none_not : {T : Type 0} (o : Option T) → ((x : T) → o ≡ Some x → ⊥) → o ≡ None
 none_not None other = refl
@@ -283,18 +284,18 @@ pub fills_closed : (first old new : Intake) (start left : Option (List ℕ)) →
 fills_closed first old new start left c fills = λ done job frame most emits from r.
     reach_closes done job frame most emits old new from left c (fills done job frame most emits from r)
 
-pub fills_more : (first old new : Intake) (start left after : Option (List ℕ)) → Fills first old start left → ReadsPiece old new left after
-    → Fills first new start after
-fills_more first old new start left after fills reads = λ done job frame most emits from r.
-    reads.fills done job frame most emits from (fills done job frame most emits from r)
-
 -- a piece was read
 pub reads_piece : (old new : Intake) (buffer : List ℕ) (count : ℕ) (left after : Option (List ℕ)) → CanRead old → old.ending ≡ None → count ≤ length buffer
     → 0 < length buffer → Consumes left after (take count buffer) × (count ≡ 0 → 0 < length buffer → IsAtEnd after) → TakesIn old new (take count buffer)
-    → KeepsRound old new → ReadsPiece old new left after
+    → KeepsRound old new → ReadsPiece (length buffer) old new left after
 reads_piece old new buffer count left after can more fits room read taken kept = record {
   fills = λ done job frame most emits start r.
       reach_takes done job frame most emits old new (take count buffer) start left after more taken kept read.0 at_end r;
+  piece = record {
+    piece = take count buffer;
+    short = (let long = length-take count buffer in omega (arith, long, fits));
+    consumed = read.0;
+  };
   can_read = record {
     done = can.done;
     job = can.job;

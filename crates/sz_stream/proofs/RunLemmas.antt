@@ -28,13 +28,13 @@ use Rattle.sz_stream.specs.declared.intake.Intake.{Intake}
 use Rattle.sz_stream.specs.declared.stop.Stop.{Stop}
 use Rattle.sz_stream.specs.declared.stop.Stop.TheVariants as stops
 use Rattle.sz_stream.specs.Inputs.{nothing, GoesOn, EndsInput, RunsBehind, RunsInput}
-use Rattle.sz_stream.specs.Intakes.{AreClosed, sum_of, CanGoOn, IsFed, IsEmpty, KeepsRound, HasTaken, TakesIn, Closes, moved_on}
+use Rattle.sz_stream.specs.Intakes.{AreClosed, sum_of, CanGoOn, IsFed, IsEmpty, KeepsRound, HasTaken, TakesIn, AreTooMany, FitsRound, Closes, moved_on}
 use Rattle.sz_stream.specs.InputRuns.{HasRun, IsRunning, StopsShards, ended_so}
 use Rattle.sz_stream.proofs.PlaceLemmas.{places_append, places_later, last_place}
 use Rattle.sz_stream.proofs.ShardLemmas.{are_longer, are_more, sum_within, fewer_shards, split, cut_append, length_cut, lie, ranges_append}
 use Rattle.sz_stream.proofs.ShardLemmas.{length-ranges, sum-append}
 use Rattle.sz_stream.proofs.FedLemmas.{begins, few_given}
-use Rattle.sz_stream.proofs.ClosingLemmas.{items_stay}
+use Rattle.sz_stream.proofs.ClosingLemmas.{items_stay, same_front}
 use Rattle.sz_stream.proofs.PassedLemmas.{few_passed, passed_records}
 
 -- what comes of shards with these sizes, after shards with these emits of whose records so many were passed over, with those before them so many
@@ -46,6 +46,10 @@ same_rest : {p q n m f g : ℕ} (job : Job) (emits : List EmitDatum) (before : �
 same_rest {p = p} {q = q} {n = n} {m = m} {f = f} {g = g} job emits before rest sizes passed number first =
     ap (λ k. rest_of job emits before k n f rest sizes) passed ∙ ap (λ k. rest_of job emits before q k f rest sizes) number
     ∙ ap (λ k. rest_of job emits before q m k rest sizes) first
+
+-- a round without shards is small
+pub no_shards : (intake : Intake) → length intake.round.shards ≡ 0 → FitsRound intake
+no_shards intake none = record { few = omega (arith, none); small = λ some. absurd (omega (arith, none, some)) }
 
 -- before anything is read
 module _ (done : Done) (job : Job) (frame : Frame) (most : ℕ) (intake : Intake) where
@@ -63,7 +67,7 @@ module _ (done : Done) (job : Job) (frame : Frame) (most : ℕ) (intake : Intake
         sizes = [];
         are = tt;
         shards = ap (λ (r : Round). r.shards) empty.round;
-        few = (let none = ap (λ (r : Round). length r.shards) empty.round in omega (arith, none));
+        fits = no_shards intake (ap (λ (r : Round). length r.shards) empty.round);
         closed = empty.closed;
         count = omega (arith, none, empty.first);
         ends = λ rest on.
@@ -187,6 +191,19 @@ module _ (done : Done) (job : Job) (frame : Frame) (most : ℕ) (old : Intake) (
         ∙ ap (places_of place (length h.given - kept_ones)) (sym came)
         ∙ ap (λ n. places_of place n (length new.round.records.items)) from
 
+    -- the round is as large as before
+    still_fits : FitsRound new
+    still_fits = record {
+      few = omega (arith, h.fits.few, ap length kept.shards);
+      small = λ some many. h.fits.small (omega (arith, some, ap length kept.shards)) (fewer many);
+    }
+      where
+        fewer : AreTooMany new.round.records.items new.closed → AreTooMany old.round.records.items old.closed
+        fewer many =
+            same_front old.round.records.items has.added old.closed closed_within
+            (subst (λ n. AreTooMany (old.round.records.items ++ has.added) n) kept.closed
+            (subst (λ rs. AreTooMany rs new.closed) has.gained many))
+
     pub takes : IsRunning done job frame most new emits (read ++ piece) (length piece == 0)
     takes = record {
       can = h.can;
@@ -203,7 +220,7 @@ module _ (done : Done) (job : Job) (frame : Frame) (most : ℕ) (old : Intake) (
           (are_longer most (is_some new.ending) old.round.records.items has.added h.sizes
           (subst (λ b. AreClosed most b old.round.records.items h.sizes) not_ended h.are));
       shards = kept.shards ∙ h.shards ∙ ap (λ n. ranges_of 0 n h.sizes) (sym kept.first);
-      few = omega (arith, h.few, ap length kept.shards);
+      fits = still_fits;
       closed = kept.closed ∙ h.closed;
       count = omega (arith, h.count, kept.first, ap length has.gained, length-append old.round.records.items has.added, length-append h.given has.added);
       ends = ends_later;
@@ -235,7 +252,7 @@ module _ (done : Done) (job : Job) (frame : Frame) (most : ℕ) (old : Intake) (
         ∙ ap (λ n. ranges_of 0 old.first h.sizes ++ ranges_of n (old.first + sum_of h.sizes) c.sizes) same
         ∙ sym (ranges_append 0 old.first h.sizes c.sizes)
         ∙ ap (λ n. ranges_of 0 n (h.sizes ++ c.sizes)) (sym c.first);
-    few = c.few h.few;
+    fits = c.fits h.fits;
     closed = c.closed ∙ ap (λ n. n + sum_of c.sizes) h.closed ∙ sym (sum-append h.sizes c.sizes);
     count = omega (arith, h.count, c.first, ap length (items_stay c));
     ends = λ rest on.
@@ -271,7 +288,7 @@ module _ (done : Done) (job : Job) (frame : Frame) (most : ℕ) (old : Intake) (
   is_round =
       let all = lie most (is_some old.ending) old.round.records.items 0 old.first h.sizes h.are (omega arith) (omega (arith, h.numbers)) few_left in
       record {
-        few = h.few;
+        few = h.fits.few;
         numbers = few_numbers;
         within = subst (All_in old.round.records.items) (sym h.shards) all.within;
         next = (0, old.first, subst (AreNext 0 old.first) (sym h.shards) all.next);
@@ -404,7 +421,7 @@ module _ (done : Done) (job : Job) (frame : Frame) (most : ℕ) (old : Intake) (
       sizes = [];
       are = tt;
       shards = refl;
-      few = omega arith;
+      fits = no_shards (moved_on n old) refl;
       closed = refl;
       count = omega (arith, h.count, closed_within, length-drop old.closed old.round.records.items);
       ends = λ rest on. (

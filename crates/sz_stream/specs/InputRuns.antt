@@ -24,7 +24,7 @@ use Rattle.sz_stream.specs.declared.tables.InputTables.{InputTables}
 use Rattle.sz_stream.specs.declared.stop.Stop.{Stop}
 use Rattle.sz_stream.specs.declared.stop.Stop.TheVariants.{Fault, Lost, ReadFailed, NoMemory, Damaged, Limit}
 use Rattle.sz_stream.specs.Inputs.{GoesOn}
-use Rattle.sz_stream.specs.Intakes.{AreClosed, sum_of, CanGoOn, IsFed}
+use Rattle.sz_stream.specs.Intakes.{AreClosed, sum_of, CanGoOn, IsFed, FitsRound, WantsPiece}
 
 -- A run goes on after shards that were run. They gave these emits, `front_passed` of their records were passed over, and `passed` with those before them.
 -- What comes of all shards is what comes of those of the rest, which begin with the shard of this number, from 0, and the record of this number, from 1
@@ -63,7 +63,7 @@ pub record IsRunning (done : Done) (job : Job) (frame : Frame) (most : ℕ) (int
   pub sizes : List ℕ
   pub are : AreClosed most (is_some intake.ending) intake.round.records.items sizes
   pub shards : intake.round.shards ≡ ranges_of 0 intake.first sizes
-  pub few : length intake.round.shards ≤ 4096
+  pub fits : FitsRound intake
   pub closed : intake.closed ≡ sum_of sizes
   pub count : intake.first + length intake.round.records.items ≡ 1 + done.records + length given
   pub ends : (rest : List ℕ) → GoesOn read over rest → intake.round.records.ends
@@ -118,11 +118,28 @@ abbrev pub left_to_read : Option Ending → FramerData → ℕ
 left_to_read None framer = 2 ^ 40 + 10 - (framer.cutter.place + length framer.pending)
 left_to_read (Some e) framer = 0
 
+-- a piece of no more bytes than so many was read
+pub record HasPiece (most : ℕ) (before after : Option (List ℕ)) : Type 0 where
+  pub piece : List ℕ
+  pub short : length piece ≤ most
+  pub consumed : Consumes before after piece
+
 -- a piece was read and taken in
-pub record ReadsPiece (old new : Intake) (before after : Option (List ℕ)) : Type 0 where
+pub record ReadsPiece (room : ℕ) (old new : Intake) (before after : Option (List ℕ)) : Type 0 where
   pub fills : Fills old new before after
+  pub piece : HasPiece room before after
   pub can_read : CanRead new
   pub less : left_to_read new.ending new.framer < left_to_read old.ending old.framer
+
+-- No more was read than was wanted: all pieces but the last were taken in, and then a piece was wanted for the round that begins here
+pub record ReadsNoMore (room : ℕ) (old new : Intake) (before after : Option (List ℕ)) : Type 0 where
+  pub last : Intake
+  pub left : Option (List ℕ)
+  pub fills : Fills old last before left
+  pub first : last.first ≡ old.first
+  pub wants : WantsPiece last
+  pub piece : HasPiece room left after
+  pub then_fills : Fills last new left after
 
 -- all these bytes were taken in, and then the end
 pub record HasTakenAll (done : Done) (job : Job) (frame : Frame) (most : ℕ) (intake : Intake) (emits : List EmitDatum) (bytes : List ℕ) : Type 0 where

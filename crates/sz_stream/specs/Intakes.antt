@@ -1,12 +1,13 @@
 -- What is known of an input that comes in pieces, and what taking a piece in, closing shards and moving on change.
-use Rattle.std.specs.Prelude.{◌≡◌, ◌⊎◌, ℕ, ◌+◌, ◌-◌, ◌^◌, ◌<◌, ◌≤◌, ◌==◌, Bool, true, false, List, [], ◌∷◌, ◌++◌, length, drop, get_or, Option, Some, None, is_some, if◌then◌else◌}
+use Rattle.std.specs.Prelude.{◌≡◌, ◌⊎◌, ℕ, ◌+◌, ◌-◌, ◌^◌, ◌<◌, ◌≤◌, ◌==◌, Bool, true, false, List, [], ◌∷◌, ◌++◌, length, take, drop, get_or}
+use Rattle.std.specs.Prelude.{Option, Some, None, is_some, if◌then◌else◌}
 use Rattle.sz_types.specs.declared.frame.Frame.{Frame}
 use Rattle.sz_records.specs.declared.ending.Ending.{Ending}
 use Rattle.sz_records.specs.declared.ending.Ending.TheVariants.{Whole}
 use Rattle.sz_records.specs.Cutting.{full, IsCut}
 use Rattle.sz_records.specs.Ends.{RecordsData, no_records, later_of}
 use Rattle.sz_records.specs.Fed.{FramerData, HasReadBehind, EndSo}
-use Rattle.sz_records.specs.Shards.{IsShard}
+use Rattle.sz_records.specs.Shards.{bytes_in, IsFull, IsShard, MayGoOn}
 use Rattle.sz_rounds.specs.Cuts.{ranges_of}
 use Rattle.sz_stream.specs.declared.done.Done.{Done}
 use Rattle.sz_stream.specs.declared.intake.Intake.{Intake}
@@ -74,19 +75,64 @@ TakesIn old new piece = (done : Done) (frame : Frame) (read : List ℕ) (given :
     → HasReadBehind done.bytes done.records frame full old.framer read given → old.framer.ended ≡ None
     → HasTaken done frame new.framer new.ending old.round.records new.round.records (read ++ piece) (length piece == 0) given
 
--- Where the answer is that the round may grow, the ending isn't known. Where it isn't, the round has a shard, or the ending is known and
--- all records are in closed shards
+-- a round has no more shards than so many
+abbrev pub most_shards : ℕ
+most_shards = 4096
+
+-- a round of more than one shard has no more records than so many
+abbrev pub most_records : ℕ
+most_records = 2 ^ 20
+
+-- nor have these more bytes than so many, without their lengths and newlines
+abbrev pub most_bytes : ℕ
+most_bytes = 2 ^ 26
+
+-- the first n records, or their bytes, are more than a round of more than one shard may have
+abbrev pub AreTooMany : List (List ℕ) → ℕ → Type 0
+AreTooMany records n = (most_records < n) ⊎ (most_bytes < bytes_in (take n records))
+
+-- the round is no larger than it may be. A single shard may have any size
+pub record FitsRound (intake : Intake) : Type 0 where
+  pub few : length intake.round.shards ≤ most_shards
+  pub small : 1 < length intake.round.shards → ¬ AreTooMany intake.round.records.items intake.closed
+
+-- the first n records at hand belong to the round's shards and to the next one, which has no end before the last of them
+pub record ReachesInto (intake : Intake) (n : ℕ) : Type 0 where
+  pub within : (intake.closed ≤ n) × (n ≤ length intake.round.records.items)
+  pub next : (m : ℕ) → m < n - intake.closed → ¬ IsFull intake.most (take m (drop intake.closed intake.round.records.items))
+
+-- the next shard, as far as it is at hand, would make the round too large
+pub record HasNoRoom (intake : Intake) : Type 0 where
+  pub some : 0 < length intake.round.shards
+  pub count : ℕ
+  pub reaches : ReachesInto intake count
+  pub many : AreTooMany intake.round.records.items count
+
+-- the round is full: it has as many shards as it may, or it has a shard and no room for the next one
+abbrev pub HasFullRound : Intake → Type 0
+HasFullRound intake = (most_shards ≤ length intake.round.shards) ⊎ HasNoRoom intake
+
+-- no more has to be read for the round: it is full, or the ending is known and all records are in closed shards
+abbrev pub IsFilled : Intake → Type 0
+IsFilled intake = HasFullRound intake ⊎ ((is_some intake.ending ≡ true) × (length intake.round.records.items ≤ intake.closed))
+
+-- a piece is wanted: the ending isn't known, no further shard is at hand as a whole, and the round isn't full
+pub record WantsPiece (intake : Intake) : Type 0 where
+  pub unknown : intake.ending ≡ None
+  pub part : MayGoOn intake.most (drop intake.closed intake.round.records.items)
+  pub room : ¬ HasFullRound intake
+
+-- the answer is whether a piece is wanted. If not, no more has to be read
 abbrev pub IsAnswered : Intake → Bool → Type 0
-IsAnswered intake true = intake.ending ≡ None
-IsAnswered intake false =
-    (0 < length intake.round.shards) ⊎ ((is_some intake.ending ≡ true) × (length intake.round.records.items ≤ intake.closed))
+IsAnswered intake true = WantsPiece intake
+IsAnswered intake false = IsFilled intake
 
 -- shards after those of the round were closed, and all else is as before
 pub record Closes (old new : Intake) : Type 0 where
   pub sizes : List ℕ
   pub are : AreClosed old.most (is_some old.ending) (drop old.closed old.round.records.items) sizes
   pub shards : new.round.shards ≡ old.round.shards ++ ranges_of old.closed (old.first + old.closed) sizes
-  pub few : length old.round.shards ≤ 4096 → length new.round.shards ≤ 4096
+  pub fits : FitsRound old → FitsRound new
   pub closed : new.closed ≡ old.closed + sum_of sizes
   pub records : new.round.records ≡ old.round.records
   pub first_shard : new.round.first_shard ≡ old.round.first_shard
@@ -109,7 +155,6 @@ moved_on passed intake = record {
   };
   first = intake.first + intake.closed;
   closed = 0;
-  bytes = 0;
   most = intake.most;
 }
 

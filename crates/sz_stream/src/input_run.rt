@@ -1,5 +1,5 @@
 //! An input, run.
-ghost use Rattle.std.specs.Prelude.{◌≡◌, ◌+◌, ◌<◌, ◌≤◌, ◌^◌, None, length, IsTrue, IfOk, IfErr, OnOk, IsErrOf};
+ghost use Rattle.std.specs.Prelude.{◌≡◌, ◌⊎◌, ◌+◌, ◌<◌, ◌≤◌, ◌^◌, None, length, IsTrue, IfOk, IfErr, OnOk, IsErrOf};
 ghost use Rattle.std.specs.Io.KnownBytes.{IsAtEnd};
 ghost use Rattle.sz_io.specs.Rose.{Rose};
 ghost use Rattle.sz_io.specs.Opened.{KeepsOtherFiles};
@@ -7,7 +7,8 @@ ghost use Rattle.sz_total.specs.States.{declarations, emit_count, shown};
 ghost use Rattle.sz_total.specs.Totals.{Joins};
 ghost use Rattle.sz_attempt.specs.Shards.{IsJob};
 ghost use Rattle.sz_stream.specs.Inputs.{RunsInput, RunsFile};
-ghost use Rattle.sz_stream.specs.InputRuns.{CanRead, CanRun, Fills, ReadsPiece, TakesAll, IsReady, RunsRound, StopsShards, ended_so};
+ghost use Rattle.sz_stream.specs.Intakes.{FitsRound, IsFilled};
+ghost use Rattle.sz_stream.specs.InputRuns.{CanRead, CanRun, Fills, ReadsPiece, ReadsNoMore, TakesAll, IsReady, RunsRound, StopsShards, ended_so};
 ghost use Rattle.sz_rounds.specs.Rounds.{IsRound, EndsRound, shards_of};
 ghost use Rattle.sz_rounds.specs.Outcomes.{outcome_from};
 ghost use Rattle.sz_rounds.specs.declared.round.RoundEnd.TheVariants as ends;
@@ -134,7 +135,11 @@ pub fn fill<F: Files>(
     requires room { 0 < length buffer.old }
     requires can_read { CanRead intake.old }
     ensures ok { OnOk result (Fills intake.old intake.new (F.left files.old file) (F.left files.new file)) }
+    ensures full { OnOk result (IsFilled intake.new) }
+    ensures fits { OnOk result (FitsRound intake.new) }
     ensures ready { OnOk result (IsReady intake.new) }
+    ensures wanted { OnOk result ((files.new ≡ files.old)
+        ⊎ ReadsNoMore (length buffer.old) intake.old intake.new (F.left files.old file) (F.left files.new file)) }
     ensures first { OnOk result (intake.new.first ≡ intake.old.first) }
     ensures first_shard { OnOk result (intake.new.round.first_shard ≡ intake.old.round.first_shard) }
     ensures failed { IsErrOf result OutsideError.Failed → Rose (F.faults files.old) (F.faults files.new) }
@@ -157,7 +162,7 @@ fn read_piece<F: Files>(
     requires room { 0 < length buffer.old }
     requires can_read { CanRead intake.old }
     requires more { intake.old.ending ≡ None }
-    ensures ok { OnOk result (ReadsPiece intake.old intake.new (F.left files.old file) (F.left files.new file)) }
+    ensures ok { OnOk result (ReadsPiece (length buffer.old) intake.old intake.new (F.left files.old file) (F.left files.new file)) }
     ensures first { intake.new.first ≡ intake.old.first }
     ensures first_shard { intake.new.round.first_shard ≡ intake.old.round.first_shard }
     ensures failed { IsErrOf result OutsideError.Failed → Rose (F.faults files.old) (F.faults files.new) }

@@ -1,6 +1,6 @@
 //! The records at hand of an input, and the round that is made of them.
-ghost use Rattle.std.specs.Prelude.{◌≡◌, ◌+◌, ◌-◌, ◌<◌, ◌≤◌, ◌^◌, None, length, IfOk, OnOk};
-ghost use Rattle.sz_stream.specs.Intakes.{CanGoOn, IsEmpty, TakesIn, KeepsRound, Closes, IsAnswered, moved_on, done_with, end_of};
+ghost use Rattle.std.specs.Prelude.{◌≡◌, ◌+◌, ◌-◌, ◌<◌, ◌≤◌, ◌^◌, true, false, None, length, IfOk, OnOk};
+ghost use Rattle.sz_stream.specs.Intakes.{CanGoOn, IsEmpty, TakesIn, KeepsRound, Closes, IsAnswered, AreTooMany, moved_on, done_with, end_of};
 ghost use Rattle.sz_stream.specs.InputRuns.{EndsAt, MovesOn};
 
 use crate::done::Done;
@@ -33,8 +33,6 @@ pub struct Intake {
     pub(crate) first: u64,
     /// How many records at hand belong to closed shards.
     pub(crate) closed: usize,
-    /// How many bytes these have.
-    pub(crate) bytes: usize,
     /// The most records of a shard.
     pub(crate) most: u32,
 }
@@ -47,7 +45,6 @@ impl Drop for Intake {
             round: _,
             first: _,
             closed: _,
-            bytes: _,
             most: _,
         } = self;
     }
@@ -71,7 +68,6 @@ impl Intake {
             },
             first: done.records + 1,
             closed: 0,
-            bytes: 0,
             most,
         }
     }
@@ -91,8 +87,8 @@ impl Intake {
         Ok(())
     }
 
-    /// Closes the next shards for as long as the round has room for them. The answer is whether the round may still grow: the ending isn't
-    /// known, and there is room for the next shard as far as that is at hand.
+    /// Closes the next shards for as long as the round has room for them. The answer is whether a piece is wanted: exactly where the ending isn't
+    /// known, and the round has room for the next shard as far as that is at hand.
     pub(crate) fn wants_piece(&mut self) -> Result<bool, NoMemory>
         requires most { 1 ≤ self.old.most }
         requires within { self.old.closed ≤ length self.old.round.records.items }
@@ -106,9 +102,7 @@ impl Intake {
             let found = shard_end(&self.round.records, start, self.most, at_end);
             let all = self.round.records.len();
             let end = found.unwrap_or(all);
-            let more = bytes_of(&self.round.records, start, end);
-            let bytes = self.bytes.saturating_add(more);
-            if !self.round.shards.is_empty() && is_large(end, bytes) {
+            if has_no_room(&self.round, end) {
                 return Ok(false);
             }
             if found.is_none() {
@@ -120,7 +114,6 @@ impl Intake {
                 end,
             })?;
             self.closed = end;
-            self.bytes = bytes;
         }
         Ok(false)
     }
@@ -187,19 +180,23 @@ impl Intake {
         self.round.passed += passed;
         self.first += self.closed as u64;
         self.closed = 0;
-        self.bytes = 0;
     }
 }
 
-/// Whether a round has no room for so many records with so many bytes.
-fn is_large(records: usize, bytes: usize) -> bool {
-    records > MOST_RECORDS || bytes > MOST_BYTES
+/// Whether a round has a shard, and no room for a further one that would bring it to so many records.
+fn has_no_room(round: &Round, count: usize) -> bool
+    requires within { count ≤ length round.now.records.items }
+    ensures full { (result ≡ true) → (0 < length round.now.shards) × AreTooMany round.now.records.items count }
+    ensures fits { (result ≡ false) → 0 < length round.now.shards → ¬ AreTooMany round.now.records.items count }
+{
+    !round.shards.is_empty() && are_too_many(&round.records, count)
 }
 
-/// How many bytes the records from one place to another have.
-fn bytes_of(records: &Records, start: usize, end: usize) -> usize
-    requires order { start ≤ end }
-    requires within { end ≤ length records.now.items }
+/// Whether so many records at the front, or their bytes, are more than a round of more than one shard may have.
+fn are_too_many(records: &Records, count: usize) -> bool
+    requires within { count ≤ length records.now.items }
+    ensures large { (result ≡ true) → AreTooMany records.now.items count }
+    ensures fits { (result ≡ false) → ¬ AreTooMany records.now.items count }
 {
-    records.bytes_between(start, end)
+    count > MOST_RECORDS || records.bytes_between(0, count) > MOST_BYTES
 }
