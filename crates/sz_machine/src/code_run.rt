@@ -13,10 +13,10 @@ ghost use Rattle.sz_machine.specs.CodeRuns.{Ends, OfEnds, EndsSo, LineDoes};
 ghost use Rattle.sz_machine.specs.LinesLeft.{ends_within, routines_end_within};
 
 use crate::asked::{RecordRun, StaticsRun};
+use crate::emitted::Emitted;
 use crate::ends::{Fault, RunEnd, StaticsEnd};
 use crate::run_state::{BUDGET_PASSED, Onward, RunState};
 use std::alloc::Global;
-use std::mem;
 use sz_instr::{Code, Line, Routine};
 use sz_machine_cells::{Calls, Cell, Operands};
 use sz_tabs::Emits;
@@ -83,9 +83,9 @@ impl<'a> Room<'a> {
         )
     }
 
-    /// Gives the list of a run's emits back, so that the next run needs no memory for its own.
+    /// Gives the list of a run's emits back, so that later runs need no memory for theirs, nor for the index lists of so many.
     pub fn take_back(&mut self, emits: Emits) {
-        self.state.emits = emits;
+        self.state.emits.take_back(emits);
     }
 }
 
@@ -97,7 +97,7 @@ impl<'a> RunState<'a> {
         RunState {
             operands: Operands::new(alloc),
             calls: Calls::new(alloc),
-            emits: Emits::new(alloc),
+            emits: Emitted::new(alloc),
             left: budget,
         }
     }
@@ -106,7 +106,7 @@ impl<'a> RunState<'a> {
     fn renew(&mut self, budget: u64)
         ensures value { self.new ≡ record self.old { emits = []; left = budget } }
     {
-        self.emits.truncate(0);
+        self.emits.clear();
         self.left = budget;
     }
 
@@ -189,10 +189,7 @@ impl<'a> RunState<'a> {
             match self.step_in_record(alloc, code, statics, input, at)? {
                 Onward::On => at += 1,
                 Onward::To(to) => at = to,
-                Onward::End => return Ok(RunEnd::Done(mem::replace(
-                    &mut self.emits,
-                    Emits::new(alloc),
-                ))),
+                Onward::End => return Ok(RunEnd::Done(self.emits.hand_over(alloc))),
                 Onward::Fault(kind) => return Ok(RunEnd::Fault(Fault {
                     kind,
                     place: line.place,

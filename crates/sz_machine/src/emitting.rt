@@ -17,7 +17,7 @@ use crate::run_state::{BUDGET_PASSED, Onward, RunState, if_paid};
 use std::alloc::Global;
 use sz_instr::Code;
 use sz_machine_cells::{Cell, result_weight};
-use sz_tabs::{Emit, Emits};
+use sz_tabs::Emit;
 use sz_types::Place;
 use sz_value::{List, NoMemory, Value};
 
@@ -192,7 +192,7 @@ impl<'a> RunState<'a> {
         ensures value { IfOk result (λ list. list ≡ seen index ∷ []) }
         ensures kept { OnOk result (self.new ≡ self.old) }
     {
-        let mut indexes = List::with_capacity(alloc, 1)?;
+        let mut indexes = self.emits.index_list(alloc)?;
         indexes.push(index)?;
         Ok(indexes)
     }

@@ -4,6 +4,7 @@
 mod acting;
 mod asked;
 mod code_run;
+mod emitted;
 mod emitting;
 mod ends;
 mod flow;

@@ -2,15 +2,15 @@
 ghost use Rattle.std.specs.Prelude.{◌≡◌, ◌<◌, ◌∷◌, drop, IfOk};
 ghost use Rattle.sz_machine.specs.Acting.{Paid, Does, results, if_paid, if_passed};
 
+use crate::emitted::Emitted;
 use sz_machine_cells::{Calls, Cell, Operands};
-use sz_tabs::Emits;
 use sz_value::NoMemory;
 
 /// A run in place: its operands and open calls, the emits so far, and the ticks that are left.
 pub struct RunState<'a> {
     pub operands: Operands<'a>,
     pub calls: Calls<'a>,
-    pub emits: Emits,
+    pub emits: Emitted,
     pub left: u64,
 }
 

@@ -19,9 +19,9 @@ returns-in-End c =
     let is : c.in_ok-step_in_record.field-0 ≡ End = search rules in
     let does : LineDoes code (in_record c.loop-at.at c.args.statics.now c.args.input.now) (in_record c.loop-at.at c.args.statics.now c.args.input.now) c.loop-at.self End new =
     subst (λ n. LineDoes code (in_record c.loop-at.at c.args.statics.now c.args.input.now) (in_record c.loop-at.at c.args.statics.now c.args.input.now) c.loop-at.self n new) is c.in_ok-step_in_record.ensures.value in
-    let same : c.replace.result ≡ new.emits = search rules in
+    let same : c.hand_over.result ≡ new.emits = search rules in
     record {
-      value = λ x over comes. done_there (world_of new) c.args.statics.now c.replace.result same x
+      value = λ x over comes. done_there (world_of new) c.args.statics.now c.hand_over.result same x
           (halts_there code (state_of c.args.self.now (in_record c.args.start c.args.statics.now c.args.input.now)) (in_record c.loop-at.at c.args.statics.now c.args.input.now) (in_record c.loop-at.at c.args.statics.now c.args.input.now) c.loop-at.self new line c.line_at-line.ensures.value does c.loop-at.invariant.way x over comes);
     }
 
