@@ -1,4 +1,6 @@
 //! The ledger of a round as a machine of one thread, and what its callers carry.
+//!
+//! No command makes a ledger of this crate: runs go by `sz_claims`, whose calls are shown to be a history of this machine's.
 #![tactic(auto)]
 
 mod book;

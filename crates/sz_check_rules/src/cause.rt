@@ -117,7 +117,7 @@ impl Cause {
         }
     }
 
-    /// Its number, from 1.
+    /// Its number: 1 to 25, of which 23 is no cause's.
     pub fn number(self) -> u8
         ensures value { result ≡ number_of self }
     {

@@ -76,8 +76,8 @@ fn in_range(number: u32) -> bool
     0 < number && number < 1 << 29
 }
 
-// A field: takes its number, unless it is out of range or the message has it before, and says whether it did.
-fn is_taken(
+// Enters the number of a field, unless it is out of range or the message has it before, and says whether it did.
+fn enter_number(
     alloc: Global,
     owner: &str,
     numbers: &mut FieldNumbers,
@@ -104,7 +104,7 @@ fn take_number(
     ensures fault { IfOk result (λ fault. fault ≡ number_fault (spelled bytes.now) owner.now numbers.old member.now) }
     ensures taken { IfOk result (λ fault. fault ≡ nothing → numbers.new ≡ numbers.old ++ numbered owner.now member.now.number ∷ []) }
 {
-    if is_taken(alloc, owner, numbers, member.number)? {
+    if enter_number(alloc, owner, numbers, member.number)? {
         Ok(None)
     } else {
         let name = unreserved(alloc, spelled(bytes, &member.name))?;

@@ -18,9 +18,11 @@ ty_step (Ty-F.Map key value) = mapping key.value value.value
 ty_step (Ty-F.Tuple fields) = tuple (fields_of fields)
 ty_step (Ty-F.Proto fields) = proto (fields_of fields)
 
+-- one level of a field, with its type already seen as its data
 abbrev pub field_step : Field-F Shape FieldShape (List FieldShape) → FieldShape
 field_step f = field f.name f.ty f.number f.code
 
+-- one level of a list of fields, each of them already seen as its data
 abbrev pub fields_step : Fields-F Shape FieldShape (List FieldShape) → List FieldShape
 fields_step fields = fields.fields.value.items
 

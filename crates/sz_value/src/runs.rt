@@ -12,7 +12,7 @@ use crate::run::{place_of, put_in, replace_in};
 use crate::value::{Pair, Run, Value};
 use std::cmp::Ordering;
 
-// A run of so many pairs is halved, or of as many as there are runs, so that a new pair moves about the root of all others.
+// A run is halved once it has so many pairs and as many as there are runs, so that a new pair moves about the root of all others.
 const LONG: usize = 256;
 
 // The pair at a place.
