@@ -6,5 +6,6 @@ pub mod ReadingLemmas
 pub mod ComparingLemmas
 pub mod WritingLemmas
 pub mod RisingLemmas
+pub mod RankLemmas
 pub mod StandardFacts
 pub mod ShortLemmas

@@ -5,6 +5,7 @@ pub mod Lists
 -- what the functions inside the crate promise each other
 pub mod Reading
 pub mod Comparing
+pub mod Rank
 pub mod Storage
 -- what the ghost members of types rest on
 pub mod Kept

@@ -5,12 +5,14 @@ ghost use Rattle.sz_value.specs.Data.{data_of};
 ghost use Rattle.sz_value.specs.Order.{compare};
 ghost use Rattle.sz_flat.specs.Spelling.{HaveShortLengths};
 ghost use Rattle.sz_flat.specs.Lists.{Spelled, same_values, list_writes};
+ghost use Rattle.sz_flat.specs.Rank.{IsRank};
 ghost use Rattle.sz_flat.specs.Kept.{spelled_prop, same_values_per, same_values_equiv, same_values_hash_alike};
 
 use crate::NoMemory;
 use crate::comparing::order_all;
 use crate::error::FlatError;
 use crate::kept_bytes::KeptBytes;
+use crate::rank::rank_all;
 use crate::reading::read_all;
 use std::alloc::{AllocError, Global};
 use std::cmp::Ordering;
@@ -89,6 +91,13 @@ impl FlatList {
         ensures value { result ≡ (length self.now == 0) }
     {
         self.bytes.as_slice().is_empty()
+    }
+
+    // The rank of the values.
+    pub(crate) fn rank(&self) -> u64
+        ensures value { IsRank self.now result }
+    {
+        rank_all(self.bytes.as_slice())
     }
 
     /// How the two lists compare, value by value. Nothing is read back, and it takes no memory.

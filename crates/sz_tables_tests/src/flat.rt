@@ -8,7 +8,7 @@ use std::alloc::Global;
 use std::cmp::Ordering;
 use std::test::Fail;
 use std::thread::Builder;
-use sz_flat::{FlatError, FlatList, from_flat, to_flat};
+use sz_flat::{FlatError, FlatList, RankedList, from_flat, to_flat};
 use sz_value::{List, NoMemory, Value, weight};
 
 // The bytes of values, and what the values weigh.
@@ -241,8 +241,9 @@ const RISING: &[&[u8]] = &[
     &[6, 0, 0, 0, 1, 1, 0],
     &[6, 0, 0, 0, 2, 1, 0, 1, 0],
     &[6, 0, 0, 0, 1, 1, 1],
-    // The least number, -256, -1, -1 with a list of nothing after it, 0, 1 and 256.
+    // The least number and the next, -256, -1, -1 with a list of nothing after it, 0, 1, 256 and the greatest two.
     &[6, 0, 0, 0, 1, 2, 0x80, 0, 0, 0, 0, 0, 0, 0],
+    &[6, 0, 0, 0, 1, 2, 0x80, 0, 0, 0, 0, 0, 0, 1],
     &[6, 0, 0, 0, 1, 2, 255, 255, 255, 255, 255, 255, 255, 0],
     &[6, 0, 0, 0, 1, 2, 255, 255, 255, 255, 255, 255, 255, 255],
     &[
@@ -251,13 +252,21 @@ const RISING: &[&[u8]] = &[
     &[6, 0, 0, 0, 1, 2, 0, 0, 0, 0, 0, 0, 0, 0],
     &[6, 0, 0, 0, 1, 2, 0, 0, 0, 0, 0, 0, 0, 1],
     &[6, 0, 0, 0, 1, 2, 0, 0, 0, 0, 0, 0, 1, 0],
+    &[6, 0, 0, 0, 1, 2, 127, 255, 255, 255, 255, 255, 255, 254],
+    &[6, 0, 0, 0, 1, 2, 127, 255, 255, 255, 255, 255, 255, 255],
     // Two times, one of them before the epoch.
     &[6, 0, 0, 0, 1, 3, 255, 255, 255, 255, 255, 255, 255, 255],
     &[6, 0, 0, 0, 1, 3, 0, 0, 0, 0, 0, 0, 0, 5],
-    // Texts: none, "a", "a" with true after it, "ab", "b", "b" and then "a", "é".
+    // Texts: none, "a", "a" with true after it, "a" and a byte of zero, seven of "a", eight and nine of them, "ab", "b", "b" and then "a", "é".
     &[6, 0, 0, 0, 1, 4, 0, 0, 0, 0],
     &[6, 0, 0, 0, 1, 4, 0, 0, 0, 1, 0x61],
     &[6, 0, 0, 0, 2, 4, 0, 0, 0, 1, 0x61, 1, 1],
+    &[6, 0, 0, 0, 1, 4, 0, 0, 0, 2, 0x61, 0],
+    &[6, 0, 0, 0, 1, 4, 0, 0, 0, 7, 97, 97, 97, 97, 97, 97, 97],
+    &[6, 0, 0, 0, 1, 4, 0, 0, 0, 8, 97, 97, 97, 97, 97, 97, 97, 97],
+    &[
+        6, 0, 0, 0, 1, 4, 0, 0, 0, 9, 97, 97, 97, 97, 97, 97, 97, 97, 97,
+    ],
     &[6, 0, 0, 0, 1, 4, 0, 0, 0, 2, 0x61, 0x62],
     &[6, 0, 0, 0, 1, 4, 0, 0, 0, 1, 0x62],
     &[6, 0, 0, 0, 2, 4, 0, 0, 0, 1, 0x62, 4, 0, 0, 0, 1, 0x61],
@@ -316,17 +325,19 @@ fn kept_of(alloc: Global, value: &Value) -> Result<FlatList, FlatError>
     Ok(kept)
 }
 
-// How the parts of the arrays that the bytes spell compare.
-fn order_of(alloc: Global, one: &[u8], other: &[u8]) -> Result<Ordering, FlatError> {
+// How the parts of the arrays that the bytes spell compare, by themselves and with their ranks.
+fn orders_of(alloc: Global, one: &[u8], other: &[u8]) -> Result<(Ordering, Ordering), FlatError> {
     let one = parts_kept(alloc, one)?;
     let other = parts_kept(alloc, other)?;
-    Ok(one.order(&other))
+    let ranked = RankedList::new(&one).order(&RankedList::new(&other));
+    Ok((one.order(&other), ranked))
 }
 
 // Whether the list compares with each of those in order as its place with theirs.
 fn stands_at(alloc: Global, place: usize, list: &[u8]) -> bool {
     for (other_place, other) in rising().iter().enumerate() {
-        if order_of(alloc, list, other).ok() != Some(place.cmp(&other_place)) {
+        let wanted = place.cmp(&other_place);
+        if orders_of(alloc, list, other).ok() != Some((wanted, wanted)) {
             return false;
         }
     }

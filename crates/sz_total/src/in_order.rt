@@ -10,13 +10,14 @@ use crate::indexed::{IndexedRows, TableRows};
 use std::alloc::Global;
 use std::cmp::Ordering;
 use std::marker::Model;
-use sz_flat::FlatList;
+use sz_flat::RankedList;
 use sz_tabs::NoMemory;
 
-/// An index list of a table, lent with its aggregator. Contracts see the index list as plain data.
+/// An index list of a table, lent with its aggregator. Its rank stands in the entry, so that a sort of many entries seldom goes to the
+/// index lists, which lie anywhere. Contracts see the index list as plain data.
 #[derive(Drop)]
 struct Entry<'t, 'a> {
-    key: &'t FlatList,
+    key: RankedList<'t>,
     aggregate: &'t Aggregate<'a>,
 }
 
@@ -32,7 +33,7 @@ impl<'t, 'a> Model for Entry<'t, 'a> {
 
     ghost coded = { coded× parts_code aggregate_code };
 
-    ghost view = { λ e. (e.key.now, e.aggregate.now) };
+    ghost view = { λ e. (e.key, e.aggregate.now) };
 }
 
 impl<'t, 'a> Entry<'t, 'a> {
@@ -40,7 +41,7 @@ impl<'t, 'a> Entry<'t, 'a> {
     fn order(&self, other: &Entry<'t, 'a>) -> Ordering
         ensures value { result ≡ compare_indexes self.now.0 other.now.0 }
     {
-        self.key.order(other.key)
+        self.key.order(&other.key)
     }
 
     // Its index list, read back, with the rows of its aggregator.
@@ -48,7 +49,7 @@ impl<'t, 'a> Entry<'t, 'a> {
         ensures value { IfOk result (λ rows. rows ≡ entry_rows self.now) }
         ensures bounded { OnOk result (IsBounded self.now.1) }
     {
-        let indexes = self.key.values(alloc)?;
+        let indexes = self.key.list().values(alloc)?;
         let rows = rows_shown(self.aggregate)?;
         Ok(IndexedRows { indexes, rows })
     }
@@ -134,6 +135,7 @@ fn entries_in_order<'t, 'a>(
 {
     let mut entries = Vec::with_capacity(alloc, lists.len())?;
     for (key, aggregate) in lists {
+        let key = RankedList::new(key);
         entries.push(Entry { key, aggregate })?;
     }
     entries.sort_unstable_by(|one, other| one.order(other));
