@@ -17,6 +17,7 @@ use crate::one_table::OneTable;
 use std::alloc::Global;
 use std::marker::Model;
 use std::mem;
+use std::thread::Threads;
 use sz_tabs::{Emit, NoMemory};
 use sz_types::TableDecls;
 
@@ -109,6 +110,22 @@ impl<'a> Total<'a> {
                 Err(back)
             }
         }
+    }
+
+    /// Absorbs the other side as `absorb` does, with the same promise, in at most so many threads.
+    pub fn absorb_by<R: Threads + Sync>(
+        &mut self,
+        rt: &R,
+        threads: usize,
+        other: Total<'a>,
+    ) -> Result<(), Total<'a>>
+        requires threads { 1 ≤ threads }
+        requires same { other.tables ≡ self.old.tables }
+        requires room { self.old.count + other.count ≤ 2 ^ 63 }
+        ensures ok { OnOk result (Joins declarations emit_count shown self.old other.entry self.new) }
+        ensures err { IfErr result (λ back. (back ≡ other.entry) × (self.new ≡ self.old)) }
+    {
+        self.absorb(other)
     }
 
     /// The rows of the table at a place, with the index lists in value order.
