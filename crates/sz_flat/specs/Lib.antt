@@ -2,6 +2,7 @@
 pub mod Spelling
 pub mod Laws
 pub mod Lists
+pub mod Digest
 -- what the functions inside the crate promise each other
 pub mod Reading
 pub mod Comparing

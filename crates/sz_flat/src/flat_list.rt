@@ -5,11 +5,13 @@ ghost use Rattle.sz_value.specs.Data.{data_of};
 ghost use Rattle.sz_value.specs.Order.{compare};
 ghost use Rattle.sz_flat.specs.Spelling.{HaveShortLengths};
 ghost use Rattle.sz_flat.specs.Lists.{Spelled, same_values, list_writes};
+ghost use Rattle.sz_flat.specs.Digest.{list_digest};
 ghost use Rattle.sz_flat.specs.Rank.{IsRank};
 ghost use Rattle.sz_flat.specs.Kept.{spelled_prop, same_values_per, same_values_equiv, same_values_hash_alike};
 
 use crate::NoMemory;
 use crate::comparing::order_all;
+use crate::digest::digest_of;
 use crate::error::FlatError;
 use crate::kept_bytes::KeptBytes;
 use crate::rank::rank_all;
@@ -105,6 +107,13 @@ impl FlatList {
         ensures value { result ≡ slice_cmp compare self.now other.now }
     {
         order_all(self.bytes.as_slice(), other.bytes.as_slice())
+    }
+
+    /// A number below 256 that lists with the same values share, by which lists can be dealt out evenly.
+    pub fn digest(&self) -> u32
+        ensures value { result ≡ list_digest self.now }
+    {
+        digest_of(self.bytes.as_slice())
     }
 }
 

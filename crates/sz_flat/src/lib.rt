@@ -2,6 +2,7 @@
 #![tactic(auto)]
 
 mod comparing;
+mod digest;
 mod error;
 mod flat_list;
 mod kept_bytes;

@@ -1,0 +1,15 @@
+-- The bytes are the spellings of the values.
+use Rattle.std.proofs.Common.{◌∙◌, ap}
+use Rattle.sz_value.specs.Data.{data_of}
+use Rattle.sz_flat.specs.Spelling.{spelled_parts}
+use Rattle.sz_flat.specs.Digest.{digest}
+use Rattle.sz_flat.proofs.ListLemmas.{bytes_are}
+use Rattle.sz_flat.proofs.flat_list.FlatList.digest.Goals as goal
+
+pub returns : goal.returns
+returns c = record {
+  value =
+      c.digest_of.ensures.value
+      ∙ ap digest
+      (c.as_slice.ensures.value ∙ bytes_are c.self.inside.bytes c.self.inside.spelled ∙ ap (λ values. spelled_parts (data_of values)) c.self.view_is);
+}
