@@ -141,7 +141,7 @@ impl<'a> RunState<'a> {
         if !self.pay(charge) {
             return Ok(Onward::Fault(BUDGET_PASSED));
         }
-        if let Some(next) = self.act_quickly(alloc, code, at, &line.instr) {
+        if let Some(next) = self.act_quickly(code, at, &line.instr) {
             return Ok(next);
         }
         self.act_in_record(alloc, code, statics, input, at, line.place, &line.instr)

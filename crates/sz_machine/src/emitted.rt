@@ -1,28 +1,35 @@
 //! The emits of a run, in room that is kept.
-ghost use Rattle.std.specs.Prelude.{◌≡◌, ◌++◌, ◌∷◌, [], IfOk, IfSome, OnOk, OnErr};
+ghost use Rattle.std.specs.Prelude.{◌≡◌, ◌<◌, ◌≤◌, ◌++◌, ◌∷◌, [], None, length, take, OnOk, OnErr};
+ghost use Rattle.sz_value.specs.Seen.{seen};
 
 use std::alloc::Global;
 use std::marker::Model;
 use std::mem;
 use sz_tabs::{Emit, Emits};
-use sz_value::{List, NoMemory};
+use sz_value::{List, NoMemory, Value};
 
-/// The emits of a run so far, in room that is kept. Emits of a run before lie in it too, whose index lists serve again.
+/// The emits of a run so far. Those of runs before stand behind them or are spare, and each serves again for the next emit: it takes its
+/// place and the room of its index list, and nothing is dropped where both have a number.
 ///
-/// Contracts see the list of the emits. What is spare doesn't show.
+/// Contracts see the list of the run's own emits.
 pub struct Emitted {
-    emits: Emits,
-    spare: Emits,
+    emits: Vec<Emit>,
+    count: usize,
+    spare: Vec<Emit>,
 }
 
 impl Drop for Emitted {
     fn drop(self) {
-        let Emitted { emits: _, spare: _ } = self;
+        let Emitted {
+            emits: _,
+            count: _,
+            spare: _,
+        } = self;
     }
 }
 
 impl Model for Emitted {
-    ghost use Rattle.std.specs.Prelude.{List};
+    ghost use Rattle.std.specs.Prelude.{◌≤◌, List, length, take};
     ghost use Rattle.std.specs.Coded.{coded_list};
     ghost use Rattle.sz_tabs.specs.Data.{EmitDatum};
     ghost use Rattle.sz_tabs.specs.Code.{emit_code};
@@ -31,11 +38,13 @@ impl Model for Emitted {
 
     ghost coded = { coded_list emit_code };
 
-    ghost view = { λ emitted. emitted.emits };
+    ghost view = { λ emitted. take emitted.count emitted.emits.items };
+
+    ghost invariant = { λ emitted. emitted.count ≤ length emitted.emits.items };
 }
 
-// How many emits of runs before are kept.
-const MOST_SPARE: usize = 64;
+// How many emits of runs before are kept, at each of the two places.
+const MOST_KEPT: usize = 64;
 
 impl Emitted {
     /// No emits, which takes no memory.
@@ -43,75 +52,168 @@ impl Emitted {
         ensures value { result ≡ [] }
     {
         Emitted {
-            emits: Emits::new(alloc),
-            spare: Emits::new(alloc),
+            emits: Vec::new(alloc),
+            count: 0,
+            spare: Vec::new(alloc),
         }
     }
 
-    /// Forgets the emits. Their room is kept.
+    /// Forgets the emits. Some of them are kept, to serve again.
     pub fn clear(&mut self)
         ensures value { self.new ≡ [] }
     {
-        self.emits.truncate(0);
+        self.count = 0;
+        self.emits.truncate(MOST_KEPT);
     }
 
     /// Appends the emit. Where there is no memory it is dropped.
-    #[inline(always)]
     pub fn push(&mut self, emit: Emit) -> Result<(), NoMemory>
         ensures ok { OnOk result (self.new ≡ self.old ++ emit ∷ []) }
         ensures err { OnErr result (self.new ≡ self.old) }
     {
-        self.emits.push(emit)
-    }
-
-    /// A list of no values for the indexes of one more emit: one that served before, or else a new one with room for one.
-    #[inline(always)]
-    pub fn index_list(&mut self, alloc: Global) -> Result<List, NoMemory>
-        ensures value { IfOk result (λ list. list ≡ []) }
-        ensures kept { self.new ≡ self.old }
-    {
-        match spare_list(alloc, &mut self.spare) {
-            Some(list) => Ok(list),
-            None => List::with_capacity(alloc, 1),
+        if self.count < self.emits.len() {
+            self.emits[self.count] = emit;
+        } else {
+            self.emits.push(emit)?;
         }
+        self.count += 1;
+        Ok(())
     }
 
-    /// Hands the emits over, and has none from then on.
+    /// Appends an emit with neither indexes nor a weight.
+    #[inline(always)]
+    pub fn push_alone(&mut self, alloc: Global, table: u32, value: Value) -> Result<(), NoMemory>
+        ensures ok { OnOk result (self.new ≡ self.old ++ record { table = table; indexes = []; value = seen value; weight = None } ∷ []) }
+        ensures err { OnErr result (self.new ≡ self.old) }
+    {
+        open(alloc, &mut self.emits, self.count, &mut self.spare)?;
+        fill_alone(&mut self.emits[self.count], table, value);
+        self.count += 1;
+        Ok(())
+    }
+
+    /// Appends an emit under one index, without a weight.
+    #[inline(always)]
+    pub fn push_under(
+        &mut self,
+        alloc: Global,
+        table: u32,
+        index: Value,
+        value: Value,
+    ) -> Result<(), NoMemory>
+        ensures ok { OnOk result (self.new ≡ self.old ++ record { table = table; indexes = seen index ∷ []; value = seen value; weight = None } ∷ []) }
+        ensures err { OnErr result (self.new ≡ self.old) }
+    {
+        open(alloc, &mut self.emits, self.count, &mut self.spare)?;
+        fill_under(&mut self.emits[self.count], table, index, value)?;
+        self.count += 1;
+        Ok(())
+    }
+
+    /// Hands the emits over, and has none from then on. Those behind them are spare from then on.
     pub fn hand_over(&mut self, alloc: Global) -> Emits
         ensures value { result ≡ self.old }
     {
-        mem::replace(&mut self.emits, Emits::new(alloc))
+        put_aside(&mut self.emits, self.count, &mut self.spare);
+        self.count = 0;
+        Emits::from_vec(mem::replace(&mut self.emits, Vec::new(alloc)))
     }
 
-    /// Takes over emits that have served, for their room and their index lists. Where more are spare already they stay so, as a run
-    /// without emits may come between two with many.
+    /// Takes over emits that have served, for their room and their index lists.
     pub fn take_back(&mut self, emits: Emits) {
-        if emits.len() > self.spare.len() {
-            self.emits = mem::replace(&mut self.spare, emits);
-            self.spare.truncate(MOST_SPARE);
-        } else {
-            self.emits = emits;
-        }
+        self.count = 0;
+        self.emits = emits.into_vec();
     }
 }
 
-// A list of no values in the room that an index list of these emits took, if one of them has indexes. The emits up to that one are dropped.
-fn spare_list(alloc: Global, spare: &mut Emits) -> Option<List>
-    ensures value { IfSome result (λ list. list ≡ []) }
+// Sees to it that an emit stands behind the first so many.
+#[inline(always)]
+fn open(
+    alloc: Global,
+    emits: &mut Vec<Emit>,
+    count: usize,
+    spare: &mut Vec<Emit>,
+) -> Result<(), NoMemory>
+    requires within { count ≤ length emits.old.items }
+    ensures room { OnOk result (count < length emits.new.items) }
+    ensures kept { take count emits.new.items ≡ take count emits.old.items }
+    ensures within { count ≤ length emits.new.items }
 {
-    while let Some(mut emit) = spare.pop() {
-        if !emit.indexes.is_empty() {
-            return Some(emptied(mem::replace(&mut emit.indexes, List::new(alloc))));
-        }
+    if count < emits.len() {
+        return Ok(());
     }
-    None
+    append_one(alloc, emits, spare)
 }
 
-// The list without its values. The room for them is kept.
-fn emptied(list: List) -> List
-    ensures value { result ≡ [] }
+// Appends an emit that served before, or else a blank one.
+#[inline(never)]
+fn append_one(alloc: Global, emits: &mut Vec<Emit>, spare: &mut Vec<Emit>) -> Result<(), NoMemory>
+    ensures more { OnOk result (length emits.old.items < length emits.new.items) }
+    ensures kept { take (length emits.old.items) emits.new.items ≡ emits.old.items }
+    ensures within { length emits.old.items ≤ length emits.new.items }
 {
-    let mut values = list.into_vec();
-    values.clear();
-    List::from_vec(values)
+    let emit = match spare.pop() {
+        Some(emit) => emit,
+        None => blank(alloc),
+    };
+    emits.push(emit)?;
+    Ok(())
+}
+
+// An emit that nobody made, without indexes.
+fn blank(alloc: Global) -> Emit {
+    Emit {
+        table: 0,
+        indexes: List::new(alloc),
+        value: Value::Int(0),
+        weight: None,
+    }
+}
+
+// Makes it the emit of a value with neither indexes nor a weight.
+#[inline(always)]
+fn fill_alone(emit: &mut Emit, table: u32, value: Value)
+    ensures value { emit.new ≡ record { table = table; indexes = []; value = seen value; weight = None } }
+{
+    emit.table = table;
+    empty(&mut emit.indexes);
+    emit.value = value;
+    emit.weight = None;
+}
+
+// Makes it the emit of a value under one index, without a weight.
+#[inline(always)]
+fn fill_under(emit: &mut Emit, table: u32, index: Value, value: Value) -> Result<(), NoMemory>
+    ensures ok { OnOk result (emit.new ≡ record { table = table; indexes = seen index ∷ []; value = seen value; weight = None }) }
+{
+    emit.table = table;
+    empty(&mut emit.indexes);
+    emit.indexes.push(index)?;
+    emit.value = value;
+    emit.weight = None;
+    Ok(())
+}
+
+// Drops the values of a list, whose room is kept.
+#[inline(always)]
+fn empty(list: &mut List)
+    ensures value { list.new ≡ [] }
+{
+    while !list.is_empty() {
+        let _ = list.pop();
+    }
+}
+
+// Moves all emits but the first so many to the spare ones, of which no more are kept than a few.
+fn put_aside(emits: &mut Vec<Emit>, count: usize, spare: &mut Vec<Emit>)
+    requires within { count ≤ length emits.old.items }
+    ensures value { emits.new.items ≡ take count emits.old.items }
+{
+    while emits.len() > count && spare.len() < MOST_KEPT {
+        let Some(emit) = emits.pop() else {
+            break;
+        };
+        let _ = spare.push(emit);
+    }
+    emits.truncate(count);
 }

@@ -96,7 +96,7 @@ impl<'a> RunState<'a> {
         ensures value { OnOk result (DoesAt place (emits_made code.now.ignore (emit_by_weight table (Some []) value.entry None)) self.old On self.new) }
     {
         match value.into_value(alloc)? {
-            Some(value) => self.emit_values(table, List::new(alloc), value),
+            Some(value) => self.emits.push_alone(alloc, table, value),
             None => self.emit_made(alloc, code, place, None),
         }
     }
@@ -178,39 +178,9 @@ impl<'a> RunState<'a> {
             self.old On self.new) }
     {
         match index.into_value(alloc)? {
-            Some(index) => {
-                let indexes = self.index_list(alloc, index)?;
-                self.emit_values(table, indexes, value)
-            }
+            Some(index) => self.emits.push_under(alloc, table, index, value),
             None => self.emit_made(alloc, code, place, None),
         }
-    }
-
-    // The list of one index.
-    #[inline(always)]
-    fn index_list(&mut self, alloc: Global, index: Value) -> Result<List, NoMemory>
-        ensures value { IfOk result (λ list. list ≡ seen index ∷ []) }
-        ensures kept { OnOk result (self.new ≡ self.old) }
-    {
-        let mut indexes = self.emits.index_list(alloc)?;
-        indexes.push(index)?;
-        Ok(indexes)
-    }
-
-    // Emits a value under these indexes, without a weight.
-    #[inline(always)]
-    fn emit_values(&mut self, table: u32, indexes: List, value: Value) -> Result<(), NoMemory>
-        ensures value { OnOk result (self.new ≡ record self.old {
-          emits = self.old.emits ++ record { table = table; indexes = indexes; value = seen value; weight = None } ∷ [];
-        }) }
-    {
-        self.emits.push(Emit {
-            table,
-            indexes,
-            value,
-            weight: None,
-        })?;
-        Ok(())
     }
 
     // The same of any parts. Whether the ticks for them were left.
@@ -244,12 +214,7 @@ impl<'a> RunState<'a> {
         if !self.pay(1) {
             return Ok(Onward::Fault(BUDGET_PASSED));
         }
-        self.emits.push(Emit {
-            table,
-            indexes: List::new(alloc),
-            value: Value::Int(number),
-            weight: None,
-        })?;
+        self.emits.push_alone(alloc, table, Value::Int(number))?;
         Ok(Onward::On)
     }
 
@@ -347,14 +312,9 @@ impl<'a> RunState<'a> {
     pub fn count_line(&mut self, alloc: Global, table: u32, place: Place) -> Result<(), NoMemory>
         ensures value { OnOk result (self.new ≡ record self.old { emits = self.old.emits ++ line_emit table place ∷ [] }) }
     {
-        let mut indexes = List::with_capacity(alloc, 1)?;
-        indexes.push(Value::Int(i64::from(place.line)))?;
-        self.emits.push(Emit {
-            table,
-            indexes,
-            value: Value::Int(1),
-            weight: None,
-        })?;
+        let line = i64::from(place.line);
+        self.emits
+            .push_under(alloc, table, Value::Int(line), Value::Int(1))?;
         Ok(())
     }
 }

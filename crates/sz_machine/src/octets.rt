@@ -61,22 +61,9 @@ impl<'a> RunState<'a> {
         true
     }
 
-    /// Puts what the topmost bytes become by a conversion to the type in their stead: the number that they spell, or the text that they are.
+    /// Puts the number that the topmost bytes spell in their stead, if the type is that of whole numbers.
     #[inline(never)]
-    pub fn convert_octets(&mut self, alloc: Global, code: &Code, ty: u32) -> bool
-        requires within { ty < length code.now.types }
-        requires some { 0 < length self.old.operands }
-        ensures value { DoesIf result (weighs_and_acts code.now (instr.Convert ty)) self.old self.new }
-    {
-        if self.read_number(code, ty) {
-            return true;
-        }
-        self.read_text(alloc, code, ty)
-    }
-
-    // Puts the number that the topmost bytes spell in their stead, if the type is that of whole numbers.
-    #[inline(always)]
-    fn read_number(&mut self, code: &Code, ty: u32) -> bool
+    pub fn read_number(&mut self, code: &Code, ty: u32) -> bool
         requires within { ty < length code.now.types }
         requires some { 0 < length self.old.operands }
         ensures value { DoesIf result (weighs_and_acts code.now (instr.Convert ty)) self.old self.new }
@@ -92,10 +79,10 @@ impl<'a> RunState<'a> {
         true
     }
 
-    // Puts the text that the topmost bytes are in their stead, if the type is that of texts, the bytes are UTF-8, there is memory, and the ticks for
-    // it are left.
+    /// Puts the text that the topmost bytes are in their stead, if the type is that of texts, the bytes are UTF-8, there is memory, and the ticks for
+    /// it are left.
     #[inline(never)]
-    fn read_text(&mut self, alloc: Global, code: &Code, ty: u32) -> bool
+    pub fn read_text(&mut self, alloc: Global, code: &Code, ty: u32) -> bool
         requires within { ty < length code.now.types }
         requires some { 0 < length self.old.operands }
         ensures value { DoesIf result (weighs_and_acts code.now (instr.Convert ty)) self.old self.new }

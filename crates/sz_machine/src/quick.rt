@@ -8,7 +8,6 @@ ghost use Rattle.sz_machine_rules.specs.Rows.{act, indexes_in, store};
 ghost use Rattle.sz_machine.specs.Acting.{DoesIf, DoesWhere, IsCovered, on_if, weighs_and_acts};
 
 use crate::run_state::{Onward, RunState};
-use std::alloc::Global;
 use sz_instr::{Code, Instr, Steps};
 use sz_machine_cells::of_ints;
 use sz_types::BinOp;
@@ -17,13 +16,7 @@ use sz_value::Value;
 impl<'a> RunState<'a> {
     /// What the instruction of a line at a place does, if it is one of these and finds such operands. Else nothing is done.
     #[inline(always)]
-    pub fn act_quickly(
-        &mut self,
-        alloc: Global,
-        code: &'a Code,
-        at: usize,
-        instr: &Instr,
-    ) -> Option<Onward>
+    pub fn act_quickly(&mut self, code: &'a Code, at: usize, instr: &Instr) -> Option<Onward>
         requires room { at < usize.MAX }
         requires covers { IsCovered code.now instr.now self.old }
         ensures done { IfSome result (λ next. (place : Place) →
@@ -40,7 +33,7 @@ impl<'a> RunState<'a> {
             Instr::Jump(to) => Some(Onward::To(*to)),
             Instr::Tick => Some(Onward::On),
             Instr::Apply(which) => on_if(self.apply_to_octets(*which)),
-            Instr::Convert(ty) => on_if(self.convert_octets(alloc, code, *ty)),
+            Instr::Convert(ty) => on_if(self.read_number(code, *ty)),
             Instr::Slice => on_if(self.cut()),
             _ => None,
         }

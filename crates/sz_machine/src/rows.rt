@@ -139,13 +139,16 @@ impl<'a> RunState<'a> {
         self.finish(made, weight)
     }
 
-    /// Pops an operand and pushes it converted to the type.
+    /// Pops an operand and pushes it converted to the type. Bytes become a text where they lie, if they can.
     #[inline(never)]
     pub fn convert(&mut self, alloc: Global, code: &Code, ty: u32) -> Result<bool, NoMemory>
         requires within { ty < length code.now.types }
         requires some { 0 < length self.old.operands }
         ensures value { IfOk result (λ paid. Does (weighs_and_acts code.now (instr.Convert ty)) self.old (if_paid paid) self.new) }
     {
+        if self.read_text(alloc, code, ty) {
+            return Ok(true);
+        }
         let to = code.types.get(ty as usize);
         let x = self.operands.pop();
         let made = converted(alloc, to, &x)?;

@@ -75,12 +75,12 @@ pub returns-in-Convert-clause-done : goal.returns-in-Convert-clause-done
 returns-in-Convert-clause-done c =
     let is : c.args.instr.now ≡ instr.Convert c.in-Convert.ty = search rules in
     let row = weighs_and_acts c.args.code.now (instr.Convert c.in-Convert.ty) in
-    rw c.on_if-in-Convert.ensures.value (rw is (row_done row c.args.self.now c.convert_octets.new.self c.convert_octets.result c.args.at c.convert_octets.ensures.value))
+    rw c.on_if-in-Convert.ensures.value (rw is (row_done row c.args.self.now c.read_number.new.self c.read_number.result c.args.at c.read_number.ensures.value))
 
 pub returns-in-Convert-clause-left : goal.returns-in-Convert-clause-left
 returns-in-Convert-clause-left c =
     let row = weighs_and_acts c.args.code.now (instr.Convert c.in-Convert.ty) in
-    rw c.on_if-in-Convert.ensures.value (row_left row c.args.self.now c.convert_octets.new.self c.convert_octets.result c.convert_octets.ensures.value)
+    rw c.on_if-in-Convert.ensures.value (row_left row c.args.self.now c.read_number.new.self c.read_number.result c.read_number.ensures.value)
 
 pub returns-in-Slice-clause-done : goal.returns-in-Slice-clause-done
 returns-in-Slice-clause-done c =
