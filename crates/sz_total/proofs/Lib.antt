@@ -12,4 +12,5 @@ mod TotalLemmas
 mod MergingLemmas
 mod OriginLemmas
 pub mod OrderLemmas
+pub mod SendLemmas
 mod StandardFacts
