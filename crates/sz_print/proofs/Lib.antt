@@ -2,4 +2,5 @@ mod JoinedLemmas
 mod ValueLemmas
 mod StandardFacts
 mod TablesLemmas
+mod PiecesLemmas
 mod OrderLemmas

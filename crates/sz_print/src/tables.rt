@@ -1,16 +1,18 @@
 //! The text of all tables.
-ghost use Rattle.std.specs.Prelude.{◌≡◌, ◌++◌, List, length, IfOk, OnOk};
+ghost use Rattle.std.specs.Prelude.{◌≡◌, ◌≤◌, ◌++◌, List, length, IfOk, OnOk};
 ghost use Rattle.sz_types.specs.SeenTables.{seen_table};
 ghost use Rattle.sz_tabs.specs.Data.{EmitDatum};
 ghost use Rattle.sz_total.specs.States.{declarations, emit_count, shown};
 ghost use Rattle.sz_total.specs.Totals.{StandsFor};
 ghost use Rattle.sz_print.specs.Tables.{table_lines, rows_text, lists_text, tables_text};
 
+use crate::pieces::{push_by, push_in_order};
 use crate::row::push_rows;
 use std::alloc::Global;
+use std::thread::Threads;
 use sz_list::Items;
 use sz_tabs::NoMemory;
-use sz_total::{IndexedRows, RowsInOrder, TableRows, Total};
+use sz_total::{IndexedRows, TableRows, Total};
 use sz_types::{TableDecl, TableDecls};
 use sz_value::Octets;
 
@@ -45,6 +47,25 @@ pub fn text<'a>(alloc: Global, total: &Total<'a>, tables: &TableDecls) -> Result
     text_of_rows(alloc, total, tables)
 }
 
+/// The same, made by so many threads where they can be started: the lines of a table of thousands of index lists are made in as many
+/// pieces. Values go as deep as the types of the program, and a thread has the stack that the system gives it, so a program with high
+/// types is for one thread.
+pub fn text_by<'a, R: Threads + Sync>(
+    rt: &R,
+    alloc: Global,
+    total: &Total<'a>,
+    tables: &TableDecls,
+    threads: u32,
+) -> Result<Vec<u8>, NoMemory>
+    requires declared { tables.now ≡ total.now.tables }
+    requires threads { 1 ≤ threads }
+    ensures rows { IfOk result (λ text. text.items ≡ rows_text tables.now (shown total.now)) }
+    ensures value { (emits : List EmitDatum) → StandsFor declarations emit_count shown total.now emits
+        → IfOk result (λ text. text.items ≡ tables_text tables.now emits) }
+{
+    text_of_rows_by(rt, alloc, total, tables, threads)
+}
+
 // The text of what the tables show.
 fn text_of_rows<'a>(
     alloc: Global,
@@ -61,20 +82,24 @@ fn text_of_rows<'a>(
     Ok(text)
 }
 
-// Appends the lines of a table, of which the rows under one index list at a time are made.
-fn push_in_order<'t, 'a>(
+// The same by so many threads.
+fn text_of_rows_by<'a, R: Threads + Sync>(
+    rt: &R,
     alloc: Global,
-    table: &TableDecl,
-    shown: &RowsInOrder<'t, 'a>,
-    out: &mut Vec<u8>,
-) -> Result<(), NoMemory>
-    ensures value { OnOk result (out.new.items ≡ out.old.items ++ table_lines (seen_table table.now) shown.now) }
+    total: &Total<'a>,
+    tables: &TableDecls,
+    threads: u32,
+) -> Result<Vec<u8>, NoMemory>
+    requires declared { tables.now ≡ total.now.tables }
+    requires threads { 1 ≤ threads }
+    ensures rows { IfOk result (λ text. text.items ≡ rows_text tables.now (shown total.now)) }
 {
-    for place in 0..shown.len() {
-        let list = shown.rows(alloc, place)?;
-        push_rows(table, &list.indexes, &list.rows, out)?;
+    let mut text = Vec::new(alloc);
+    for (number, table) in tables.as_slice().iter().enumerate() {
+        let rows = total.in_order(number)?;
+        push_by(rt, alloc, table, &rows, threads, &mut text)?;
     }
-    Ok(())
+    Ok(text)
 }
 
 // Appends the lines of a table with these rows.
