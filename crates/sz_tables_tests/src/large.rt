@@ -1,5 +1,5 @@
-//! Large tables: as many values as a limit lets in and one more, and a merge of a million index lists. No answer of want of memory comes
-//! but from the allocator, so none comes here.
+//! Large tables: as many values as a limit lets in and one more, a merge of a million index lists, and a text that is made in pieces. No
+//! answer of want of memory comes but from the allocator, so none comes here.
 ghost use Rattle.std.specs.Prelude.{◌≡◌, ◌∷◌, [], ◌≤◌, ◌<◌, ◌+◌, ◌^◌, true, false, All, IfOk};
 ghost use Rattle.sz_types.specs.Data.{Shape};
 ghost use Rattle.sz_types.specs.SeenTables.{seen_table};
@@ -11,8 +11,10 @@ use crate::totals;
 use crate::totals::{Dealt, add_dealt, declarations, weight_for};
 use std::alloc::Global;
 use std::test::Fail;
+use std::thread::Threads;
 use sz_extreme::Extreme;
 use sz_members::Members;
+use sz_print::{text, text_by};
 use sz_tabs::{Aggregator, NoMemory};
 use sz_total::Total;
 use sz_types::{TableDecl, TableDecls, TableKind};
@@ -147,6 +149,22 @@ fn first_rows<'a>(total: &Total<'a>, tables: &TableDecls) -> Result<usize, NoMem
     Ok(total.rows(0)?.as_slice().len())
 }
 
+// Whether so many threads make the text that one makes, of a table of sums with so many index lists.
+fn have_one_text<R: Threads + Sync>(
+    rt: &R,
+    alloc: Global,
+    count: u32,
+    threads: u32,
+) -> Result<bool, NoMemory>
+    requires threads { 1 ≤ threads }
+{
+    let tables = declarations(alloc)?;
+    let total = counted(alloc, &tables, Numbers { first: 0, count })?;
+    let one = text(alloc, &total, &tables)?;
+    let all = text_by(rt, alloc, &total, &tables, threads)?;
+    Ok(one.len() > 0 && one.as_slice() == all.as_slice())
+}
+
 #[test]
 fn ten_thousand_maxima_of_both_sides_are_kept(rt: HostRuntime) -> Result<(), Fail> {
     let alloc = rt.alloc();
@@ -171,5 +189,14 @@ fn a_set_of_a_million_values_is_just_full(rt: HostRuntime) -> Result<(), Fail> {
 fn a_million_index_lists_are_merged(rt: HostRuntime) -> Result<(), Fail> {
     let lists = lists_merged(rt.alloc(), 500_000);
     assert!(rt; lists.unwrap_or(0) == 1_000_000);
+    Ok(())
+}
+
+#[test]
+fn any_number_of_threads_makes_the_same_text(rt: HostRuntime) -> Result<(), Fail> {
+    for fewer in 0..4u32 {
+        let same = have_one_text(&rt, rt.alloc(), 4_999, fewer + 1)?;
+        assert!(rt; same, "by {} threads", fewer + 1);
+    }
     Ok(())
 }
