@@ -27,7 +27,7 @@ use sz_gen_stmt::{Compiled, compile};
 use sz_io::{Files, Gate};
 use sz_list::Items;
 use sz_machine::{StaticsEnd, run_statics};
-use sz_print::text;
+use sz_print::text_by;
 use sz_save::{save, write_saved};
 use sz_stream::{InputTables, run_bytes, run_file};
 use sz_value::{NoMemory, Slots};
@@ -112,7 +112,7 @@ pub fn tables_of_file<R: Threads + Sync, F: Files, G: Gate + Sync>(
 {
     let file = files.open_file(settings.input.as_str())?;
     let tables = run_file(rt, alloc, job, settings, workers, files, file, gate)?;
-    Ok(written(alloc, job, settings.save, &tables)?)
+    Ok(written(rt, alloc, job, settings.save, workers, &tables)?)
 }
 
 /// The same for these bytes.
@@ -133,11 +133,19 @@ pub fn tables_of_bytes<R: Threads + Sync, G: Gate + Sync>(
     ensures value { GivesTables job.now settings.now.save settings.now.shard settings.now.frame input.now ⊥ (vec_items_of result) }
 {
     let tables = run_bytes(rt, alloc, job, settings, workers, input, gate)?;
-    Ok(written(alloc, job, settings.save, &tables)?)
+    Ok(written(rt, alloc, job, settings.save, workers, &tables)?)
 }
 
-/// What is written of the tables of an input: their text, or the saved tables.
-fn written(alloc: Global, job: &Job, save: bool, tables: &InputTables) -> Result<Vec<u8>, NoMemory>
+/// What is written of the tables of an input: their text, which so many workers make, or the saved tables.
+fn written<R: Threads + Sync>(
+    rt: &R,
+    alloc: Global,
+    job: &Job,
+    save: bool,
+    workers: u32,
+    tables: &InputTables,
+) -> Result<Vec<u8>, NoMemory>
+    requires workers { 1 ≤ workers }
     requires declared { tables.now.total.tables ≡ all_tables job.now.compiled }
     requires can_save { CanSave save job.now.compiled }
     requires budget { job.now.budget ≤ 2 ^ 32 }
@@ -151,7 +159,7 @@ fn written(alloc: Global, job: &Job, save: bool, tables: &InputTables) -> Result
     if save {
         saved(alloc, job, tables)
     } else {
-        text(alloc, &tables.total, job.compiled.tables())
+        text_by(rt, alloc, &tables.total, job.compiled.tables(), workers)
     }
 }
 

@@ -21,6 +21,7 @@ written-requires g c =
     let s = c.args.settings.now in
     let fit = tables_fit c.args.job.now s.save s.shard s.frame c.args.input.now ⊥ c.requires.bounds.shard c.in_ok-tables.tables c.in_ok-tables.ensures.value in
     record {
+      workers = c.requires.workers.0;
       declared = fit.declared;
       can_save = c.requires.can_save;
       budget = c.requires.job.budget.most;

@@ -48,6 +48,7 @@ written-requires g c =
     let fit = file_fits c.args.job.now s.save s.shard s.frame (files.left c.open_file.new.self file) (files.left new file)
     (Rose (files.faults c.args.files.now) (files.faults new)) c.requires.bounds.shard c.in_ok-tables.tables c.in_ok-tables.ensures.value in
     record {
+      workers = c.requires.workers.0;
       declared = fit.declared;
       can_save = c.requires.can_save;
       budget = c.requires.job.budget.most;
