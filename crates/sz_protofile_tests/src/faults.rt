@@ -1,8 +1,7 @@
 //! What is wrong with files whose lines are read, or that nothing is.
+use crate::errors::write_error;
 use std::alloc::Global;
-use std::fmt::Write;
-use sz_protofile_names::{ProtoError, sound_lines};
-use sz_types::{Place, Text};
+use sz_protofile_names::sound_lines;
 
 // In each row a file stands before `=>`, and after it the number of what is wrong with it, the name, if there is one, and the place.
 const ROWS: &str = r##" =>
@@ -82,33 +81,6 @@ fn rows() -> &'static str {
     ROWS
 }
 
-fn write_name(out: &mut String, name: &Option<Text>) {
-    if let Some(name) = name {
-        let text = name.as_str();
-        let _ = write!(out, " {text}");
-    }
-}
-
-fn write_refusal(out: &mut String, number: u8, place: Place, name: &Option<Text>) {
-    let _ = write!(out, " {number}");
-    write_name(out, name);
-    let _ = write!(out, " {}:{}", place.line, place.column);
-}
-
-// What is wrong with a file.
-fn write_error(out: &mut String, error: &ProtoError) {
-    match error {
-        ProtoError::Refused {
-            number,
-            place,
-            name,
-        } => write_refusal(out, *number, *place, name),
-        ProtoError::NoMemory => {
-            let _ = write!(out, " no memory");
-        }
-    }
-}
-
 // What is wrong with a file that is no longer than it may be, and nothing for another.
 fn outcome(alloc: Global, text: &[u8]) -> String {
     let mut out = String::new(alloc);
@@ -121,17 +93,11 @@ fn outcome(alloc: Global, text: &[u8]) -> String {
     out
 }
 
-// Whether what stands after the arrow comes of what stands in front of it.
-fn row_holds(alloc: Global, row: &str) -> bool {
-    match row.split_once(" =>") {
-        Some((text, wanted)) => outcome(alloc, text.as_bytes()).as_str() == wanted,
-        None => false,
-    }
-}
-
 #[test]
 fn the_first_thing_that_is_wrong_with_a_file_is_told(rt: HostRuntime) {
     for row in rows().lines() {
-        assert!(rt; row_holds(rt.alloc(), row), "at {row}");
+        let (text, wanted) = row.split_once(" =>").unwrap_or((row, "no arrow"));
+        let found = outcome(rt.alloc(), text.as_bytes());
+        assert_eq!(rt; found.as_str(), wanted, "at {row}");
     }
 }

@@ -54,17 +54,11 @@ fn outcome(alloc: Global, text: &[u8]) -> String {
     out
 }
 
-// Whether what stands after the arrow comes of what stands in front of it.
-fn row_holds(alloc: Global, row: &str) -> bool {
-    match row.split_once(" =>") {
-        Some((text, wanted)) => outcome(alloc, text.as_bytes()).as_str() == wanted,
-        None => false,
-    }
-}
-
 #[test]
 fn fields_lead_back_where_ranks_are_the_same(rt: HostRuntime) {
     for row in rows().lines() {
-        assert!(rt; row_holds(rt.alloc(), row), "at {row}");
+        let (text, wanted) = row.split_once(" =>").unwrap_or((row, "no arrow"));
+        let found = outcome(rt.alloc(), text.as_bytes());
+        assert_eq!(rt; found.as_str(), wanted, "at {row}");
     }
 }

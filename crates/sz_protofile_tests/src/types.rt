@@ -1,8 +1,9 @@
 //! The types of the messages of whole files, and what files are refused for.
+use crate::errors::write_error;
 use std::alloc::Global;
 use std::fmt::Write;
 use sz_protofile_types::{NamedTypes, ProtoError, read_proto};
-use sz_types::{Place, Text};
+use sz_types::Place;
 
 // In each row a file stands before `=>`, and after it each of its types behind its name, or the number of what is wrong with the file, the
 // name, if there is one, and the place.
@@ -26,33 +27,6 @@ fn rows() -> &'static str {
     ROWS
 }
 
-fn write_name(out: &mut String, name: &Option<Text>) {
-    if let Some(name) = name {
-        let text = name.as_str();
-        let _ = write!(out, " {text}");
-    }
-}
-
-fn write_refusal(out: &mut String, number: u8, place: Place, name: &Option<Text>) {
-    let _ = write!(out, " {number}");
-    write_name(out, name);
-    let _ = write!(out, " {}:{}", place.line, place.column);
-}
-
-// What is wrong with a file.
-fn write_error(out: &mut String, error: &ProtoError) {
-    match error {
-        ProtoError::Refused {
-            number,
-            place,
-            name,
-        } => write_refusal(out, *number, *place, name),
-        ProtoError::NoMemory => {
-            let _ = write!(out, " no memory");
-        }
-    }
-}
-
 // Types behind their names. Where memory runs out the text is another one than it should be.
 fn write_types(out: &mut String, types: &NamedTypes) {
     for named in types.as_slice() {
@@ -74,18 +48,12 @@ fn outcome(alloc: Global, text: &[u8]) -> String {
     out
 }
 
-// Whether what stands after the arrow comes of what stands in front of it.
-fn row_holds(alloc: Global, row: &str) -> bool {
-    match row.split_once(" =>") {
-        Some((text, wanted)) => outcome(alloc, text.as_bytes()).as_str() == wanted,
-        None => false,
-    }
-}
-
 #[test]
 fn messages_have_their_types(rt: HostRuntime) {
     for row in rows().lines() {
-        assert!(rt; row_holds(rt.alloc(), row), "at {row}");
+        let (text, wanted) = row.split_once(" =>").unwrap_or((row, "no arrow"));
+        let found = outcome(rt.alloc(), text.as_bytes());
+        assert_eq!(rt; found.as_str(), wanted, "at {row}");
     }
 }
 
