@@ -1,5 +1,7 @@
 //! Files of saved tables, and bytes that are none, each with what is in it.
 
+use crate::samples::{NO_SUMS, ONE_SUM};
+
 // Files of saved tables, with what is in them.
 const SAVED: &[(&str, &[u8])] = &[
     (
@@ -14,21 +16,8 @@ const SAVED: &[(&str, &[u8])] = &[
             83, 90, 84, 65, 66, 76, 69, 49, 128, 0, 0, 0, 0, 0, 0, 0, 0, 0, 0, 0,
         ],
     ),
-    (
-        "a sum of one emit",
-        &[
-            83, 90, 84, 65, 66, 76, 69, 49, 0, 0, 0, 0, 0, 0, 0, 16, 0, 0, 0, 1, 0, 0, 0, 1, 99, 0,
-            0, 0, 0, 0, 0, 0, 0, 0, 2, 0, 0, 0, 0, 0, 0, 0, 0, 1, 0, 0, 0, 1, 0, 0, 0, 0, 0, 0, 0,
-            0, 0, 0, 0, 0, 0, 0, 0, 1,
-        ],
-    ),
-    (
-        "a table without entries",
-        &[
-            83, 90, 84, 65, 66, 76, 69, 49, 0, 0, 0, 0, 0, 0, 0, 0, 0, 0, 0, 1, 0, 0, 0, 1, 99, 0,
-            0, 0, 0, 0, 0, 0, 0, 0, 2, 0, 0, 0, 0, 0, 0, 0, 0, 0,
-        ],
-    ),
+    ("a sum of one emit", ONE_SUM),
+    ("a table without entries", NO_SUMS),
     (
         "the greatest sums that a bound of 1 allows",
         &[

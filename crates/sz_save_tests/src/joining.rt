@@ -1,6 +1,7 @@
 //! What two files of saved tables are together.
 
 use crate::pairs::{joined, limit, other};
+use crate::samples::ONE_SUM;
 use std::alloc::Global;
 use std::test::Fail;
 use sz_print::text_rows;
@@ -21,8 +22,8 @@ fn join_with(alloc: Global, one: &Saved, second: &[u8]) -> Result<Saved, JoinErr
     }
 }
 
-// Whether the tables are written as these bytes.
-fn is_written(alloc: Global, saved: &Saved, bytes: &[u8]) -> bool {
+/// Whether the tables are written as these bytes.
+pub(crate) fn is_written(alloc: Global, saved: &Saved, bytes: &[u8]) -> bool {
     match write_saved(alloc, saved) {
         Ok(written) => written.as_slice() == bytes,
         Err(_) => false,
@@ -73,8 +74,8 @@ fn files_with_bounds_that_are_too_large_are_refused(rt: HostRuntime) -> Result<(
     Ok(())
 }
 
-// Whether this is the text of the tables.
-fn has_text(alloc: Global, saved: &Saved, text: &str) -> bool {
+/// Whether this is the text of the tables.
+pub(crate) fn has_text(alloc: Global, saved: &Saved, text: &str) -> bool {
     let decls = saved.decls();
     let tables = saved.tables();
     if tables.len() != decls.len() {
@@ -93,15 +94,8 @@ fn is_printed(alloc: Global, one: &[u8], second: &[u8], text: &str) -> bool {
     }
 }
 
-// A sum of one emit, under a budget of 16 ticks.
-const ONE_SUM: [u8; 64] = [
-    83, 90, 84, 65, 66, 76, 69, 49, 0, 0, 0, 0, 0, 0, 0, 16, 0, 0, 0, 1, 0, 0, 0, 1, 99, 0, 0, 0,
-    0, 0, 0, 0, 0, 0, 2, 0, 0, 0, 0, 0, 0, 0, 0, 1, 0, 0, 0, 1, 0, 0, 0, 0, 0, 0, 0, 0, 0, 0, 0, 0,
-    0, 0, 0, 1,
-];
-
 #[test]
 fn a_joined_sum_is_printed(rt: HostRuntime) -> Result<(), Fail> {
-    assert!(rt; is_printed(rt.alloc(), &ONE_SUM, &ONE_SUM, "c[] = 2\n"));
+    assert!(rt; is_printed(rt.alloc(), ONE_SUM, ONE_SUM, "c[] = 2\n"));
     Ok(())
 }

@@ -14,4 +14,6 @@ mod pairs;
 #[cfg(test)]
 mod reading;
 #[cfg(test)]
+mod samples;
+#[cfg(test)]
 mod saving;

@@ -1,12 +1,13 @@
 //! Files that are merged, one after the other.
 
+use crate::joining::{has_text, is_written};
 use crate::lists::{printed, stopped};
 use crate::pairs::{joined, limit, other};
+use crate::samples::{GREAT_BOUND, NO_SUMS, ONE_SUM};
 use std::alloc::Global;
 use std::test::Fail;
 use sz_merge::{MergeError, Merging};
-use sz_print::text_rows;
-use sz_save::{Saved, write_saved};
+use sz_save::Saved;
 
 // Why files aren't merged: the number of one of them, from 1, and its cause.
 #[derive(Drop)]
@@ -49,29 +50,10 @@ fn is_merged(alloc: Global, files: &[&[u8]], bytes: &[u8]) -> bool {
     }
 }
 
-fn is_written(alloc: Global, saved: &Saved, bytes: &[u8]) -> bool {
-    match write_saved(alloc, saved) {
-        Ok(written) => written.as_slice() == bytes,
-        Err(_) => false,
-    }
-}
-
 // Whether this is the text of what the files hold together.
 fn is_printed(alloc: Global, files: &[&[u8]], text: &str) -> bool {
     match merge(alloc, files) {
         Ok(all) => has_text(alloc, &all, text),
-        Err(_) => false,
-    }
-}
-
-fn has_text(alloc: Global, saved: &Saved, text: &str) -> bool {
-    let decls = saved.decls();
-    let tables = saved.tables();
-    if tables.len() != decls.len() {
-        return false;
-    }
-    match text_rows(alloc, decls, tables) {
-        Ok(printed) => printed.as_slice() == text.as_bytes(),
         Err(_) => false,
     }
 }
@@ -118,14 +100,7 @@ fn a_second_file_that_cant_be_joined_is_named(rt: HostRuntime) -> Result<(), Fai
     Ok(())
 }
 
-// A sum of one emit, under a budget of 16 ticks.
-const ONE: &[u8] = &[
-    83, 90, 84, 65, 66, 76, 69, 49, 0, 0, 0, 0, 0, 0, 0, 16, 0, 0, 0, 1, 0, 0, 0, 1, 99, 0, 0, 0,
-    0, 0, 0, 0, 0, 0, 2, 0, 0, 0, 0, 0, 0, 0, 0, 1, 0, 0, 0, 1, 0, 0, 0, 0, 0, 0, 0, 0, 0, 0, 0, 0,
-    0, 0, 0, 1,
-];
-
-// The same without its last byte.
+// The sum of one emit without its last byte.
 const CUT: &[u8] = &[
     83, 90, 84, 65, 66, 76, 69, 49, 0, 0, 0, 0, 0, 0, 0, 16, 0, 0, 0, 1, 0, 0, 0, 1, 99, 0, 0, 0,
     0, 0, 0, 0, 0, 0, 2, 0, 0, 0, 0, 0, 0, 0, 0, 1, 0, 0, 0, 1, 0, 0, 0, 0, 0, 0, 0, 0, 0, 0, 0, 0,
@@ -135,13 +110,6 @@ const CUT: &[u8] = &[
 // The same with another name.
 const NAMED: &[u8] = &[
     83, 90, 84, 65, 66, 76, 69, 49, 0, 0, 0, 0, 0, 0, 0, 16, 0, 0, 0, 1, 0, 0, 0, 1, 100, 0, 0, 0,
-    0, 0, 0, 0, 0, 0, 2, 0, 0, 0, 0, 0, 0, 0, 0, 1, 0, 0, 0, 1, 0, 0, 0, 0, 0, 0, 0, 0, 0, 0, 0, 0,
-    0, 0, 0, 1,
-];
-
-// The same with the greatest bound.
-const GREAT: &[u8] = &[
-    83, 90, 84, 65, 66, 76, 69, 49, 128, 0, 0, 0, 0, 0, 0, 0, 0, 0, 0, 1, 0, 0, 0, 1, 99, 0, 0, 0,
     0, 0, 0, 0, 0, 0, 2, 0, 0, 0, 0, 0, 0, 0, 0, 1, 0, 0, 0, 1, 0, 0, 0, 0, 0, 0, 0, 0, 0, 0, 0, 0,
     0, 0, 0, 1,
 ];
@@ -160,69 +128,63 @@ const HALF: &[u8] = &[
     0, 0, 0, 1,
 ];
 
-// The same table without emits.
-const NONE: &[u8] = &[
-    83, 90, 84, 65, 66, 76, 69, 49, 0, 0, 0, 0, 0, 0, 0, 0, 0, 0, 0, 1, 0, 0, 0, 1, 99, 0, 0, 0, 0,
-    0, 0, 0, 0, 0, 2, 0, 0, 0, 0, 0, 0, 0, 0, 0,
-];
-
 // Files, the number of the one at which merging them ends, and the letter of its cause.
 const STOPPED: &[(&str, &[&[u8]], usize, char)] = &[
     ("no bytes", &[&[]], 1, 'b'),
-    ("no bytes behind a file", &[ONE, &[]], 2, 'b'),
-    ("a file that is cut", &[ONE, CUT], 2, 'b'),
-    ("the first file is cut", &[CUT, ONE], 1, 'b'),
+    ("no bytes behind a file", &[ONE_SUM, &[]], 2, 'b'),
+    ("a file that is cut", &[ONE_SUM, CUT], 2, 'b'),
+    ("the first file is cut", &[CUT, ONE_SUM], 1, 'b'),
     (
         "the first file is cut, and the second has another name",
         &[CUT, NAMED],
         1,
         'b',
     ),
-    ("another name", &[ONE, NAMED], 2, 'o'),
+    ("another name", &[ONE_SUM, NAMED], 2, 'o'),
     (
         "the third file has another name than the first two",
-        &[ONE, ONE, NAMED],
+        &[ONE_SUM, ONE_SUM, NAMED],
         3,
         'o',
     ),
     (
         "another name before a file that is cut",
-        &[ONE, NAMED, CUT],
+        &[ONE_SUM, NAMED, CUT],
         2,
         'o',
     ),
     (
         "a file that is cut before another name",
-        &[ONE, CUT, NAMED],
+        &[ONE_SUM, CUT, NAMED],
         2,
         'b',
     ),
     (
         "another name, and a bound that is too large",
-        &[ONE, NAMED_GREAT],
+        &[ONE_SUM, NAMED_GREAT],
         2,
         'o',
     ),
-    ("a bound that is too large", &[ONE, GREAT], 2, 'l'),
+    ("a bound that is too large", &[ONE_SUM, GREAT_BOUND], 2, 'l'),
     (
         "the greatest bound, and then one of more",
-        &[GREAT, NONE, ONE],
+        &[GREAT_BOUND, NO_SUMS, ONE_SUM],
         3,
         'l',
     ),
     (
         "half the greatest bound twice, and then one of more",
-        &[HALF, HALF, ONE],
+        &[HALF, HALF, ONE_SUM],
         3,
         'l',
     ),
     (
         "a bound that is too large before a file that is cut",
-        &[GREAT, ONE, CUT],
+        &[GREAT_BOUND, ONE_SUM, CUT],
         2,
         'l',
     ),
-    ("nothing, and another name", &[NONE, NAMED], 2, 'o'),
+    ("nothing, and another name", &[NO_SUMS, NAMED], 2, 'o'),
 ];
 
 #[test]
@@ -235,23 +197,29 @@ fn the_first_file_that_cant_be_joined_is_named(rt: HostRuntime) -> Result<(), Fa
 
 // Files, and the text of what they hold together.
 const PRINTED: &[(&str, &[&[u8]], &str)] = &[
-    ("one file", &[ONE], "c[] = 1\n"),
-    ("a file twice", &[ONE, ONE], "c[] = 2\n"),
-    ("no emits", &[NONE, NONE, NONE], ""),
-    ("the greatest bound", &[GREAT, NONE], "c[] = 1\n"),
+    ("one file", &[ONE_SUM], "c[] = 1\n"),
+    ("a file twice", &[ONE_SUM, ONE_SUM], "c[] = 2\n"),
+    ("no emits", &[NO_SUMS, NO_SUMS, NO_SUMS], ""),
+    ("the greatest bound", &[GREAT_BOUND, NO_SUMS], "c[] = 1\n"),
     (
         "half the greatest bound twice",
-        &[HALF, HALF, NONE],
+        &[HALF, HALF, NO_SUMS],
         "c[] = 2\n",
     ),
-    ("three files", &[ONE, NONE, ONE], "c[] = 2\n"),
-    ("five files", &[ONE, ONE, ONE, ONE, ONE], "c[] = 5\n"),
+    ("three files", &[ONE_SUM, NO_SUMS, ONE_SUM], "c[] = 2\n"),
+    (
+        "five files",
+        &[ONE_SUM, ONE_SUM, ONE_SUM, ONE_SUM, ONE_SUM],
+        "c[] = 5\n",
+    ),
     (
         "seven files",
-        &[ONE, ONE, NONE, ONE, ONE, ONE, ONE],
+        &[
+            ONE_SUM, ONE_SUM, NO_SUMS, ONE_SUM, ONE_SUM, ONE_SUM, ONE_SUM,
+        ],
         "c[] = 6\n",
     ),
-    ("sixty-four files", &[ONE; 64], "c[] = 64\n"),
+    ("sixty-four files", &[ONE_SUM; 64], "c[] = 64\n"),
 ];
 
 #[test]

@@ -1,29 +1,16 @@
 //! Which bytes are read as saved tables, and what is read.
 
 use crate::files::{saved, unsaved};
+use crate::joining::is_written;
+use crate::samples::ONE_SUM;
 use std::alloc::Global;
 use std::test::Fail;
-use sz_save::{Saved, SavedError, read_saved, write_saved};
+use sz_save::{Saved, SavedError, read_saved};
 use sz_tabs::{Row, RowValue};
 use sz_total::TableRows;
 
-// The tables of one program: a sum of one emit, under a budget of 16 ticks.
-const ONE_SUM: [u8; 64] = [
-    83, 90, 84, 65, 66, 76, 69, 49, 0, 0, 0, 0, 0, 0, 0, 16, 0, 0, 0, 1, 0, 0, 0, 1, 99, 0, 0, 0,
-    0, 0, 0, 0, 0, 0, 2, 0, 0, 0, 0, 0, 0, 0, 0, 1, 0, 0, 0, 1, 0, 0, 0, 0, 0, 0, 0, 0, 0, 0, 0, 0,
-    0, 0, 0, 1,
-];
-
 fn is_read(alloc: Global, bytes: &[u8]) -> bool {
     read_saved(alloc, bytes).is_ok()
-}
-
-// Whether the tables are written as these bytes.
-fn is_written(alloc: Global, saved: &Saved, bytes: &[u8]) -> bool {
-    match write_saved(alloc, saved) {
-        Ok(written) => written.as_slice() == bytes,
-        Err(_) => false,
-    }
 }
 
 // Whether the bytes are those of saved tables, and are written again.
@@ -152,6 +139,6 @@ fn is_one_sum(alloc: Global, bytes: &[u8]) -> bool {
 
 #[test]
 fn a_sum_is_read_with_its_table_and_its_bound(rt: HostRuntime) -> Result<(), Fail> {
-    assert!(rt; is_one_sum(rt.alloc(), &ONE_SUM));
+    assert!(rt; is_one_sum(rt.alloc(), ONE_SUM));
     Ok(())
 }
