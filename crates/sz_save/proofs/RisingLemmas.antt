@@ -33,17 +33,17 @@ indexes_tie (x ∷ xs) (y ∷ ys) tied = by_found (compare x y) refl tied (index
     by_found Equal is tied later = λ i. compare_ties x y is i ∷ later tied i
     by_found Greater is tied later = absurd (true≢false (sym (ap is_eq tied)))
 
-equal : (found : Ordering) → is_eq found ≡ true → found ≡ Equal
+pub equal : (found : Ordering) → is_eq found ≡ true → found ≡ Equal
 equal Less h = absurd (true≢false (sym h))
 equal Equal h = refl
 equal Greater h = absurd (true≢false (sym h))
 
-less : (found : Ordering) → is_lt found ≡ true → found ≡ Less
+pub less : (found : Ordering) → is_lt found ≡ true → found ≡ Less
 less Less h = refl
 less Equal h = absurd (true≢false (sym h))
 less Greater h = absurd (true≢false (sym h))
 
-turned : (xs ys : List Datum) (found : Ordering) → compare_indexes xs ys ≡ found → compare_indexes ys xs ≡ ordering_reverse found
+pub turned : (xs ys : List Datum) (found : Ordering) → compare_indexes xs ys ≡ found → compare_indexes ys xs ≡ ordering_reverse found
 turned xs ys found is = indexes_total.antisymm ys xs ∙ ap ordering_reverse is
 
 -- each index list is above this one
@@ -55,7 +55,7 @@ abbrev pub Rise : List Indexed → Type 0
 Rise [] = Unit {0}
 Rise (e ∷ es) = AreAbove e.indexes es × Rise es
 
-still_above : (indexes : List Datum) (e : Indexed) (es : List Indexed) → compare_indexes indexes e.indexes ≡ Less → AreAbove e.indexes es → AreAbove indexes es
+pub still_above : (indexes : List Datum) (e : Indexed) (es : List Indexed) → compare_indexes indexes e.indexes ≡ Less → AreAbove e.indexes es → AreAbove indexes es
 still_above indexes e [] below all = tt
 still_above indexes e (f ∷ es) below all =
     (indexes_total.trans indexes e.indexes f.indexes below all.0, still_above indexes e es below all.1)

@@ -19,7 +19,8 @@ use Rattle.sz_total.specs.Tables.{Indexed, indexes_to, rows_under, table_rows}
 use Rattle.sz_save_format.specs.Saved.{IsSavedTable, CanBeSaved}
 use Rattle.sz_save.specs.Joined.{joined_rows, rows_at}
 use Rattle.sz_save_laws.specs.Laws.{Joining, given, joined, state_of, IsJoining, JoinsTables, tables_from, HoldInTurn, AddsEmits}
-use Rattle.sz_save_laws.proofs.UniqueLemmas.{AreAbove, Rise, indexes_total, indexes_tie, equal, all_at, same_tables}
+use Rattle.sz_save.proofs.RisingLemmas.{AreAbove, indexes_total, indexes_tie, equal}
+use Rattle.sz_save_laws.proofs.UniqueLemmas.{Rise, all_at, same_tables}
 use Rattle.sz_save_laws.proofs.StateLemmas.{all_joined, state_long, state_rises, joined_at}
 use Rattle.sz_save_laws.proofs.EmitLemmas.{rows_join, some_rows_of}
 

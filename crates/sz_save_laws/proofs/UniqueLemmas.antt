@@ -1,10 +1,7 @@
 -- What stands under each index list says what a table holds.
-use Rattle.std.proofs.Common.{◌≡◌, ◌∙◌, ℕ, ◌≤◌, Bool, true, false, true≢false, cond, ⊎_elim, List, [], ◌∷◌, length, map, zip, refl, sym, ap, subst, arith}
-use Rattle.std.proofs.Common.{Ordering, Less, Equal, Greater, is_lt, is_eq}
-use Rattle.std.specs.Cmp.{IsTotalOrder}
-use Rattle.std.specs.Cmp.Lexicographic.{lists_total}
+use Rattle.std.proofs.Common.{◌≡◌, ◌∙◌, ℕ, ◌≤◌, Bool, true, false, cond, ⊎_elim, List, [], ◌∷◌, length, map, zip, refl, sym, ap, subst, arith}
+use Rattle.std.proofs.Common.{Ordering, Less, Equal, Greater, is_eq}
 use Rattle.std.specs.List.{AllByRecursion}
-use Rattle.std.specs.Ordering.{ordering_then, ordering_reverse}
 use Rattle.std.proofs.lemmas.Bool.{and_parts}
 use Rattle.std.proofs.lemmas.Cmp.{tied_itself}
 use Rattle.sz_types.specs.Data.{Shape}
@@ -12,57 +9,18 @@ use Rattle.sz_types.specs.Tables.{Declaration}
 use Rattle.sz_types.specs.declared.table.TableKind.{TableKind}
 use Rattle.sz_types.specs.declared.table.TableKind.TheVariants.{Sum, Maximum, Minimum, Set, Collection}
 use Rattle.sz_value.specs.Data.{Datum}
-use Rattle.sz_value.specs.Total.{compare_total, compare_ties}
-use Rattle.sz_value.specs.Order.{compare}
 use Rattle.sz_tabs.specs.Data.{RowDatum}
 use Rattle.sz_tabs.specs.Rows.{compare_indexes}
 use Rattle.sz_total.specs.Tables.{Indexed}
 use Rattle.sz_save_format.specs.Entries.{HaveRows, AreSumRows, IsSavedEntry, entry_may_follow, in_order}
 use Rattle.sz_save_format.specs.Saved.{IsSavedTable}
 use Rattle.sz_save.specs.Joined.{rows_at}
-
-pub indexes_total : IsTotalOrder compare_indexes
-indexes_total = lists_total compare_total
-
--- index lists that tie are the same
-pub indexes_tie : (xs ys : List Datum) → compare_indexes xs ys ≡ Equal → xs ≡ ys
-indexes_tie [] [] tied = refl
-indexes_tie [] (y ∷ ys) tied = absurd (true≢false (sym (ap is_eq tied)))
-indexes_tie (x ∷ xs) [] tied = absurd (true≢false (sym (ap is_eq tied)))
-indexes_tie (x ∷ xs) (y ∷ ys) tied = by_found (compare x y) refl tied (indexes_tie xs ys)
-  where
-    by_found : (found : Ordering) → compare x y ≡ found → ordering_then found (compare_indexes xs ys) ≡ Equal
-        → (compare_indexes xs ys ≡ Equal → xs ≡ ys) → x ∷ xs ≡ y ∷ ys
-    by_found Less is tied later = absurd (true≢false (sym (ap is_eq tied)))
-    by_found Equal is tied later = λ i. compare_ties x y is i ∷ later tied i
-    by_found Greater is tied later = absurd (true≢false (sym (ap is_eq tied)))
-
-pub equal : (found : Ordering) → is_eq found ≡ true → found ≡ Equal
-equal Less h = absurd (true≢false (sym h))
-equal Equal h = refl
-equal Greater h = absurd (true≢false (sym h))
-
-less : (found : Ordering) → is_lt found ≡ true → found ≡ Less
-less Less h = refl
-less Equal h = absurd (true≢false (sym h))
-less Greater h = absurd (true≢false (sym h))
-
-turned : (xs ys : List Datum) (found : Ordering) → compare_indexes xs ys ≡ found → compare_indexes ys xs ≡ ordering_reverse found
-turned xs ys found is = indexes_total.antisymm ys xs ∙ ap ordering_reverse is
-
--- each index list is above this one
-abbrev pub AreAbove : List Datum → List Indexed → Type 0
-AreAbove indexes entries = AllByRecursion (λ (e : Indexed). compare_indexes indexes e.indexes ≡ Less) entries
+use Rattle.sz_save.proofs.RisingLemmas.{AreAbove, indexes_total, indexes_tie, equal, less, turned, still_above, none_below}
 
 -- each index list has rows and is below those behind it
 abbrev pub Rise : List Indexed → Type 0
 Rise [] = Unit {0}
 Rise (e ∷ es) = (1 ≤ length e.rows) × AreAbove e.indexes es × Rise es
-
-still_above : (indexes : List Datum) (e : Indexed) (es : List Indexed) → compare_indexes indexes e.indexes ≡ Less → AreAbove e.indexes es → AreAbove indexes es
-still_above indexes e [] below all = tt
-still_above indexes e (f ∷ es) below all =
-    (indexes_total.trans indexes e.indexes f.indexes below all.0, still_above indexes e es below all.1)
 
 some_sums : (bound : ℕ) (element : Shape) (rows : List RowDatum) → AreSumRows bound element rows → 1 ≤ length rows
 some_sums bound element [] h = absurd h
@@ -83,12 +41,6 @@ rise bound table (e ∷ f ∷ es) each up =
     let later = rise bound table (f ∷ es) each.1 both.1 in
     let first = less (compare_indexes e.indexes f.indexes) both.0 in
     (some_rows table.kind bound table.limit table.element e.rows each.0.rows, (first, still_above e.indexes f es first later.1), later)
-
--- under an index list that is below all there are no rows
-none_below : (indexes : List Datum) (es : List Indexed) → AreAbove indexes es → rows_at es indexes ≡ []
-none_below indexes [] all = refl
-none_below indexes (e ∷ es) all =
-    ap (λ found. cond (is_eq found) e.rows (rows_at es indexes)) (turned indexes e.indexes Less all.0) ∙ none_below indexes es all.1
 
 found_first : (e : Indexed) (es : List Indexed) → rows_at (e ∷ es) e.indexes ≡ e.rows
 found_first e es = ap (λ found. cond (is_eq found) e.rows (rows_at es e.indexes)) (tied_itself indexes_total e.indexes)
