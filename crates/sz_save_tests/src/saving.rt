@@ -6,10 +6,10 @@ ghost use Rattle.sz_types.specs.SeenTables.{seen_table};
 ghost use Rattle.sz_save_tests.specs.Tables as tables;
 ghost use Rattle.sz_save_tests.specs.Tables.{numbers_table, number_emit};
 
+use crate::joining::has_text;
 use std::alloc::{AllocError, Global};
 use std::test::Fail;
-use sz_print::text_rows;
-use sz_save::{NoMemory, Saved, is_low, read_saved, save, write_saved};
+use sz_save::{NoMemory, is_low, read_saved, save, write_saved};
 use sz_tabs::Emit;
 use sz_total::Total;
 use sz_types::{TableDecl, TableDecls, TableKind, Text, Ty, Tys};
@@ -196,23 +196,10 @@ fn saved() -> &'static [(&'static str, TableKind, &'static [Number], &'static st
     SAVED
 }
 
-// Whether the saved tables have this bound and this text.
-fn has_text(alloc: Global, saved: &Saved, bound: u64, text: &str) -> bool {
-    let decls = saved.decls();
-    let tables = saved.tables();
-    if saved.bound() != bound || tables.len() != decls.len() {
-        return false;
-    }
-    match text_rows(alloc, decls, tables) {
-        Ok(printed) => printed.as_slice() == text.as_bytes(),
-        Err(_) => false,
-    }
-}
-
 // Whether a file is read as saved tables with this bound and this text.
 fn is_read(alloc: Global, file: &Octets, bound: u64, text: &str) -> bool {
     match read_saved(alloc, file.as_slice()) {
-        Ok(saved) => has_text(alloc, &saved, bound, text),
+        Ok(saved) => saved.bound() == bound && has_text(alloc, &saved, text),
         Err(_) => false,
     }
 }
