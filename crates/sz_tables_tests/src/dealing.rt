@@ -19,8 +19,8 @@ use sz_types::{TableDecl, TableKind};
 // A whole number, its weight, and the aggregator that it is dealt to.
 type Dealt = (i64, i64, u64);
 
-// The next of the numbers that a generator draws.
-fn drawn(last: u64) -> u64
+/// The next of the numbers that a generator draws.
+pub(crate) fn drawn(last: u64) -> u64
     requires { last ≤ 65536 }
     ensures below { result ≤ 65536 }
 {
@@ -42,8 +42,8 @@ fn deal(alloc: Global, seed: u64, count: u64) -> Result<Vec<Dealt>, NoMemory>
     Ok(dealt)
 }
 
-// A number from -3 to 3.
-fn small(number: u64) -> i64 {
+/// A number from -3 to 3.
+pub(crate) fn small(number: u64) -> i64 {
     (number % 7) as i64 - 3
 }
 

@@ -5,6 +5,7 @@ ghost use Rattle.sz_types.specs.SeenTables.{seen_table};
 ghost use Rattle.sz_value.specs.Data.{int};
 ghost use Rattle.sz_total.specs.Weights.{HaveTheirWeights};
 
+use crate::dealing::{drawn, small};
 use crate::tables::{add_number, are_same, indexed_table, numbers_from, numbers_in};
 use std::alloc::Global;
 use std::test::Fail;
@@ -291,19 +292,6 @@ fn push_under(index: i64, under: &[i128], numbers: &mut Vec<i128>) -> Result<(),
         numbers.extend_from_slice(under)?;
     }
     Ok(())
-}
-
-// The next of the numbers that a generator draws.
-fn drawn(last: u64) -> u64
-    requires { last ≤ 65536 }
-    ensures below { result ≤ 65536 }
-{
-    (75 * last + 74) % 65_537
-}
-
-// A number from -3 to 3.
-fn small(number: u64) -> i64 {
-    (number % 7) as i64 - 3
 }
 
 // So many emits of few different numbers and weights.
