@@ -365,7 +365,7 @@ module _ (table : Declaration) (count : ℕ) (indexes : List Datum) (other : Agg
   takes_more : TakesAll table count ((indexes, other) ∷ os) old new
   takes_more = record { indexes = rest.indexes ∙ step.lists (keys_of os); rows = rows_taken; still = rest.still }
 
-takes_none : (table : Declaration) (count : ℕ) (old new : Entries) → new ≡ old → AreOfTable table count old → TakesAll table count [] old new
+pub takes_none : (table : Declaration) (count : ℕ) (old new : Entries) → new ≡ old → AreOfTable table count old → TakesAll table count [] old new
 takes_none table count old new same are = record {
   indexes = ap (λ h. distinct compare_indexes (keys_of h)) same ∙ ap (distinct compare_indexes) (sym (append-nil (keys_of old)));
   rows = λ indexes front later before beside.

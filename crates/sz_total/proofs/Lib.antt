@@ -8,8 +8,14 @@ mod TypedLemmas
 mod KeyLemmas
 mod ReadLemmas
 mod PlaceLemmas
+mod PartLemmas
+mod PartsLemmas
+mod DealingLemmas
 mod TotalLemmas
 mod MergingLemmas
+mod CountingLemmas
+mod RoomLemmas
+mod OneTableLemmas
 mod OriginLemmas
 pub mod OrderLemmas
 pub mod SendLemmas

@@ -1,5 +1,5 @@
 -- What a merge does to one table, and to all of them.
-use Rattle.std.proofs.Common.{◌≡◌, ◌∙◌, ℕ, zero, suc, ◌+◌, ◌≤◌, ◌<◌, ◌^◌, Bool, true, false, true≢false, Some, List}
+use Rattle.std.proofs.Common.{◌≡◌, ◌∙◌, ℕ, zero, suc, ◌+◌, ◌≤◌, ◌<◌, ◌^◌, Bool, true, false, true≢false, ◌⊎◌, inl, inr, Option, Some, None, List}
 use Rattle.std.proofs.Common.{Result, Ok, Err, OnOk}
 use Rattle.std.specs.Result.{is_err}
 use Rattle.std.proofs.Common.{[], ◌∷◌, ◌++◌, map, length, refl, sym, ap, subst, arith, All, nat_eq}
@@ -17,73 +17,137 @@ use Rattle.sz_tabs.specs.Sorting.{distinct}
 use Rattle.sz_total.specs.Tables.{table_rows}
 use Rattle.sz_total.specs.Totals.{StandsFor, Joins}
 use Rattle.sz_total.specs.States.{TotalState, declarations, emit_count, shown}
-use Rattle.sz_total.specs.Entries.{Entries, rows_in_order, AreOfTable}
-use Rattle.sz_total.specs.Joining.{LooksTheSame, HaveRoomFor, AreReady, TakesAll, JoinsEntries}
-use Rattle.sz_total.specs.OneTable.{TableState, table_shown, AreTables, HasRoomToMerge, JoinsTable, state_of}
+use Rattle.sz_total.specs.Entries.{AreOfTable}
+use Rattle.sz_total.specs.Joining.{TakesAll, JoinsEntries}
+use Rattle.sz_total.specs.Parts.{PartState, part_at, entries_of, IsPlaced, ArePlaced, ArePartsOf, AreSettled, HavePartRoom, Receives}
+use Rattle.sz_total.specs.Parts.{MayJoin, MayJoinAll, SettleAll}
+use Rattle.sz_total.specs.OneTable.{TableState, IsKept, table_shown, AreTables, HasRoomToMerge, JoinsTable, state_of}
 use Rattle.sz_total.specs.Merging.{tables_of, AreMatched, IsMatchedAt, HasRoomAt, ChangesRoomAt, ChangeRoomAlone, HaveRoomToMerge}
 use Rattle.sz_total.specs.Merging.{AreFew, MayMergeAt, MergesAt, JoinTables}
 use Rattle.sz_total.proofs.EntryLemmas.{of_table_longer}
-use Rattle.sz_total.proofs.JoiningLemmas.{are_ready, rows_of_both}
+use Rattle.sz_total.proofs.JoiningLemmas.{are_ready, takes_none, rows_of_both}
+use Rattle.sz_total.proofs.PartLemmas.{nothing_past}
+use Rattle.sz_total.proofs.PartsLemmas.{placed_both, takes_parts}
+use Rattle.sz_total.proofs.DealingLemmas.{below}
 use Rattle.sz_total.proofs.TotalLemmas.{state_at, few_at}
 
--- room alone changes no row
-pub same_rows : (old new : Entries) → LooksTheSame old new → rows_in_order new ≡ rows_in_order old
-same_rows old new looks = (λ i. map (λ indexes. record { indexes = indexes; rows = looks.rows indexes i }) (distinct compare_indexes (looks.keys i)))
-
--- aggregators that may be joined, and their rows after that
-module _ (table : Declaration) (mine yours : ℕ) (entries others : Entries) (are : AreOfTable table mine entries) (beside : AreOfTable table yours others) where
-  pub may_join : mine + yours ≤ 2 ^ 63 → HaveRoomFor entries others → AreReady (2 ^ 63) entries others
-  may_join few room = are_ready table mine yours (2 ^ 63) few entries others are beside room
-
-  module _ (room : HaveRoomFor entries others) (new : Entries) (joins : JoinsEntries others entries new) where
-    takes : TakesAll table (mine + yours) others entries new
-    takes =
-        joins.takes table (mine + yours) (of_table_longer table mine (mine + yours) (omega arith) entries are)
-        (of_table_longer table yours (mine + yours) (omega arith) others beside)
-        (are_ready table mine yours (mine + yours) (omega arith) entries others are beside room)
-
-    pub of_table_both : AreOfTable table (mine + yours) new
-    of_table_both = takes.still
-
-    pub table_joined : (old other : TableState) (capacity further now : ℕ) → (record { table = table; count = mine; entries = entries; room = capacity }) ≡ old
-        → (record { table = table; count = yours; entries = others; room = further }) ≡ other
-        → JoinsTable old other (record { table = table; count = mine + yours; entries = new; room = now })
-    table_joined old other capacity further now is your_is =
-        subst (λ o. JoinsTable o other (record { table = table; count = mine + yours; entries = new; room = now })) is
-        (subst
-        (λ o. JoinsTable (record { table = table; count = mine; entries = entries; room = capacity }) o
-        (record { table = table; count = mine + yours; entries = new; room = now }))
-        your_is
-        (record {
-          same_table = refl;
-          both_counts = refl;
-          rows = λ number front later before after. rows_of_both number table front later (mine + yours) others entries new takes before after;
-        }))
-
 -- what is known of both tables before a merge
-pub record AreSides (table its : Declaration) (mine yours : ℕ) (entries others : Entries) : Type 0 where
+pub record AreSides (table its : Declaration) (mine yours : ℕ) (parts others : List PartState) : Type 0 where
   pub same : its ≡ table
-  pub are : AreOfTable table mine entries
-  pub beside : AreOfTable table yours others
+  pub as_many : length others ≡ length parts
+  pub are : ArePartsOf table mine parts
+  pub others_are : ArePartsOf table yours others
   pub few : mine + yours ≤ 2 ^ 63
-  pub room : HaveRoomFor entries others
+  pub room : HavePartRoom parts others
 
-pub are_sides : (table its : Declaration) (mine yours : ℕ) (entries others : Entries) (capacity further : ℕ) (old other : TableState)
-    → (record { table = table; count = mine; entries = entries; room = capacity }) ≡ old
-    → (record { table = its; count = yours; entries = others; room = further }) ≡ other → other.table ≡ old.table → old.count + other.count ≤ 2 ^ 63
-    → HasRoomToMerge old other → AreOfTable table mine entries → AreOfTable its yours others → AreSides table its mine yours entries others
-are_sides table its mine yours entries others capacity further old other is your_is same few room are beside =
+pub are_sides : (table its : Declaration) (mine yours : ℕ) (parts others : List PartState) (old other : TableState)
+    → (record { table = table; count = mine; parts = parts }) ≡ old → (record { table = its; count = yours; parts = others }) ≡ other
+    → other.table ≡ old.table → old.count + other.count ≤ 2 ^ 63 → HasRoomToMerge old other → ArePartsOf table mine parts → ArePartsOf its yours others
+    → AreSides table its mine yours parts others
+are_sides table its mine yours parts others old other is your_is same few room are others_are =
     let one : its ≡ table =
     ap (λ (s : TableState). s.table) your_is ∙ same ∙ sym (ap (λ (s : TableState). s.table) is) in
     record {
       same = one;
+      as_many =
+          ap (λ (s : TableState). length s.parts) your_is ∙ room.as_many ∙ sym (ap (λ (s : TableState). length s.parts) is);
       are = are;
-      beside = subst (λ t. AreOfTable t yours others) one beside;
+      others_are = subst (λ t. ArePartsOf t yours others) one others_are;
       few = omega (arith, few, ap (λ (s : TableState). s.count) is, ap (λ (s : TableState). s.count) your_is);
       room =
-          subst (λ (s : TableState). HaveRoomFor s.entries others) (sym is)
-          (subst (λ (s : TableState). HaveRoomFor old.entries s.entries) (sym your_is) room.aggregates);
+          subst (λ (s : TableState). HavePartRoom s.parts others) (sym is)
+          (subst (λ (s : TableState). HavePartRoom old.parts s.parts) (sym your_is) room.parts);
     }
+
+-- parts that may be joined, and their rows after that
+module _ (table its : Declaration) (mine yours : ℕ) (parts others mid new : List PartState) (sides : AreSides table its mine yours parts others)
+    (receives : Receives others parts mid) where
+  pub may_join_all : MayJoinAll mid
+  may_join_all at less =
+      subst MayJoin (sym (receives.each at))
+      (record {
+        ready =
+            are_ready table mine yours (2 ^ 63) sides.few (part_at parts at).entries (part_at others at).entries (sides.are at) (sides.others_are at)
+            (sides.room at).aggregates;
+        room = (sides.room at).lists;
+      })
+
+  module _ (placed : ArePlaced parts) (others_placed : ArePlaced others) (all : SettleAll mid new) where
+    abbrev both : ℕ
+    both = mine + yours
+
+    pub as_many_new : length new ≡ length parts
+    as_many_new = all.as_many ∙ receives.as_many
+
+    takes_each : (at : ℕ) → TakesAll table both (part_at others at).entries (part_at parts at).entries (part_at new at).entries
+    takes_each at = by_place (below at (length mid))
+      where
+        are : AreOfTable table both (part_at parts at).entries
+        are = of_table_longer table mine both (omega arith) (part_at parts at).entries (sides.are at)
+
+        by_place : (at < length mid) ⊎ (length mid ≤ at)
+            → TakesAll table both (part_at others at).entries (part_at parts at).entries (part_at new at).entries
+        by_place (inl less) =
+            let joins : JoinsEntries (part_at others at).entries (part_at parts at).entries (part_at new at).entries =
+            subst (λ (p : PartState). JoinsEntries p.arriving p.entries (part_at new at).entries) (receives.each at) (all.each at less).joins in
+            joins.takes table both are
+            (of_table_longer table yours both (omega arith) (part_at others at).entries (sides.others_are at))
+            (are_ready table mine yours both (omega arith) (part_at parts at).entries (part_at others at).entries (sides.are at) (sides.others_are at)
+            (sides.room at).aggregates)
+        by_place (inr past) =
+            let mine_not = nothing_past parts at (omega (arith, past, receives.as_many)) in
+            let your_not = nothing_past others at (omega (arith, past, receives.as_many, sides.as_many)) in
+            let new_not = nothing_past new at (omega (arith, past, all.as_many)) in
+            subst (λ (p : PartState). TakesAll table both p.entries (part_at parts at).entries (part_at new at).entries) (sym your_not)
+            (takes_none table both (part_at parts at).entries (part_at new at).entries
+            (ap (λ (p : PartState). p.entries) (new_not ∙ sym mine_not)) are)
+
+    others_numbered : (at : ℕ) → IsPlaced (length parts) at (part_at others at).entries
+    others_numbered = subst (λ c. (at : ℕ) → IsPlaced c at (part_at others at).entries) sides.as_many others_placed
+
+    pub placed_joined : ArePlaced new
+    placed_joined =
+        subst (λ c. (at : ℕ) → IsPlaced c at (part_at new at).entries) (sym as_many_new)
+        (placed_both table both (length parts) others parts new placed others_numbered takes_each)
+
+    pub parts_of_joined : ArePartsOf table both new
+    parts_of_joined at = (takes_each at).still
+
+    pub settled_joined : AreSettled new
+    settled_joined at = by_place (below at (length mid))
+      where
+        by_place : (at < length mid) ⊎ (length mid ≤ at) → (part_at new at).arriving ≡ []
+        by_place (inl less) = (all.each at less).arriving
+        by_place (inr past) = ap (λ (p : PartState). p.arriving) (nothing_past new at (omega (arith, past, all.as_many)))
+
+    pub table_joined : (old other : TableState) → (record { table = table; count = mine; parts = parts }) ≡ old
+        → (record { table = its; count = yours; parts = others }) ≡ other
+        → JoinsTable old other (record { table = table; count = mine + yours; parts = new })
+    table_joined old other is your_is =
+        subst (λ o. JoinsTable o other (record { table = table; count = mine + yours; parts = new })) is
+        (subst
+        (λ o. JoinsTable (record { table = table; count = mine; parts = parts }) o (record { table = table; count = mine + yours; parts = new }))
+        your_is
+        (record {
+          same_table = refl;
+          both_counts = refl;
+          rows = λ number front later before after.
+              rows_of_both number table front later both (entries_of others) (entries_of parts) (entries_of new)
+              (takes_parts table both (length parts) others parts new placed others_numbered takes_each) before after;
+        }))
+
+-- a table that was merged with another
+pub kept_joined : (table its : Declaration) (mine yours : ℕ) (parts others mid new : List PartState) → AreSides table its mine yours parts others
+    → Receives others parts mid → IsKept table mine parts → IsKept its yours others → SettleAll mid new → IsKept table (mine + yours) new
+kept_joined table its mine yours parts others mid new sides receives kept others_kept all = record {
+  weights = kept.weights;
+  one_or_many =
+      subst (λ n. (n ≡ 1) ⊎ (n ≡ 16)) (sym (as_many_new table its mine yours parts others mid new sides receives kept.placed others_kept.placed all))
+      kept.one_or_many;
+  placed = placed_joined table its mine yours parts others mid new sides receives kept.placed others_kept.placed all;
+  aggregates = parts_of_joined table its mine yours parts others mid new sides receives kept.placed others_kept.placed all;
+  settled = settled_joined table its mine yours parts others mid new sides receives kept.placed others_kept.placed all;
+}
 
 -- what is found after a write
 set_here : {X : Type 0} (xs : List X) (i : ℕ) (x : X) → i < length xs → slice_get (set xs i x) i ≡ Some x
@@ -112,11 +176,11 @@ found_after xs y rest all at place is = ap (slice_get all) place ∙ ap (λ l. s
 
 -- the other side has a table at each place, with the same declaration
 pub matched_at : (states others : List TableState) → AreMatched states others → (at : ℕ) (other : TableState) → slice_get others at ≡ Some other
-    → IsMatchedAt at other states
+    → IsMatchedAt at states others
 matched_at states others matched at other there =
     let found = state_at (tables_of others) states (sym matched) at other.table
     (slice_get-map (λ (s : TableState). s.table) others at ∙ ap (option_map (λ (s : TableState). s.table)) there) in
-    record { state = found.0; there = found.1; same = sym found.2 }
+    record { state = found.0; there = found.1; other = other; other_there = there; same = sym found.2 }
 
 -- room alone leaves what is known of tables
 module _ (at : ℕ) (old new : List TableState) (changes : ChangesRoomAt at old new) where
@@ -130,7 +194,7 @@ module _ (at : ℕ) (old new : List TableState) (changes : ChangesRoomAt at old 
   one_changed : ChangeRoomAlone old new
   one_changed = record {
     declared = changed_maps (λ (s : TableState). s.table) changes.changes.same_table;
-    rows = changed_maps table_shown (same_rows changes.before.entries changes.after.entries changes.changes.aggregates);
+    rows = changed_maps table_shown changes.changes.rows;
     still = λ tables count are. record {
       declared = changed_maps (λ (s : TableState). s.table) changes.changes.same_table ∙ are.declared;
       few =
@@ -140,42 +204,80 @@ module _ (at : ℕ) (old new : List TableState) (changes : ChangesRoomAt at old 
     };
   }
 
--- room was made in the first tables
-pub record IsRoomMadeTo (at : ℕ) (others first current : List TableState) : Type 0 where
-  pub kept : ChangeRoomAlone first current
-  pub room : (i : ℕ) (own other : TableState) → i < at → slice_get current i ≡ Some own → slice_get others i ≡ Some other → HasRoomToMerge own other
+-- there are as many tables
+pub length_changed : (at : ℕ) (old new : List TableState) → ChangesRoomAt at old new → length new ≡ length old
+length_changed at old new changes = ap length changes.now ∙ length-set old at changes.after
 
-pub kept_more : (at : ℕ) (others first current new : List TableState) → IsRoomMadeTo at others first current → ChangesRoomAt at current new
-    → ChangeRoomAlone first new
-kept_more at others first current new before changes =
+-- nothing changed
+pub changes_none : (states : List TableState) → ChangeRoomAlone states states
+changes_none states = record { declared = refl; rows = refl; still = λ tables count are. are }
+
+-- nothing but room changed before, and in the table at a place
+pub changes_more : (at : ℕ) (first current new : List TableState) → ChangeRoomAlone first current → ChangesRoomAt at current new → ChangeRoomAlone first new
+changes_more at first current new before changes =
     let one = one_changed at current new changes in
     record {
-      declared = one.declared ∙ before.kept.declared;
-      rows = one.rows ∙ before.kept.rows;
-      still = λ tables count are. one.still tables count (before.kept.still tables count are);
+      declared = one.declared ∙ before.declared;
+      rows = one.rows ∙ before.rows;
+      still = λ tables count are. one.still tables count (before.still tables count are);
     }
 
-pub made_more : (at : ℕ) (other : TableState) (others first current new : List TableState) → slice_get others at ≡ Some other
-    → IsRoomMadeTo at others first current → ChangesRoomAt at current new → HasRoomAt at other new → IsRoomMadeTo (at + 1) others first new
-made_more at other others first current new there before changes has = record {
-  kept = kept_more at others first current new before changes;
+-- room was made in the first tables
+pub record IsRoomMadeTo (at : ℕ) (first your_first current others : List TableState) : Type 0 where
+  pub kept : ChangeRoomAlone first current
+  pub others_kept : ChangeRoomAlone your_first others
+  pub room : (i : ℕ) (own other : TableState) → i < at → slice_get current i ≡ Some own → slice_get others i ≡ Some other → HasRoomToMerge own other
+
+pub made_none : (first your_first : List TableState) → IsRoomMadeTo 0 first your_first first your_first
+made_none first your_first = record {
+  kept = changes_none first;
+  others_kept = changes_none your_first;
+  room = λ i own other less mine beside. let no : ⊥ = omega (arith, less) in absurd no;
+}
+
+not_there : (l : List TableState) (i : ℕ) → i < length l → slice_get l i ≡ None → ⊥
+not_there [] i less is = omega (arith, less)
+not_there (s ∷ ss) zero less is = let no : ⊥ = cc in no
+not_there (s ∷ ss) (suc i) less is = not_there ss i (omega (arith, less)) is
+
+-- the next tables of both sides are matched
+pub next_matched : (at : ℕ) (first your_first current others : List TableState) → AreMatched first your_first
+    → IsRoomMadeTo at first your_first current others → at < length others → IsMatchedAt at current others
+next_matched at first your_first current others matched made less =
+    by_found (slice_get others at) refl
+  where
+    now_matched : AreMatched current others
+    now_matched = made.others_kept.declared ∙ matched ∙ sym made.kept.declared
+
+    by_found : (found : Option TableState) → slice_get others at ≡ found → IsMatchedAt at current others
+    by_found None is = absurd (not_there others at less is)
+    by_found (Some other) is = matched_at current others now_matched at other is
+
+pub made_more : (at : ℕ) (first your_first current others new others_new : List TableState) → IsRoomMadeTo at first your_first current others
+    → ChangesRoomAt at current new → ChangesRoomAt at others others_new → HasRoomAt at new others_new
+    → IsRoomMadeTo (at + 1) first your_first new others_new
+made_more at first your_first current others new others_new before changes their_changes has = record {
+  kept = changes_more at first current new before.kept changes;
+  others_kept = changes_more at your_first others others_new before.others_kept their_changes;
   room = λ i own yours less mine beside. by_test i own yours less mine beside (nat_eq at i) refl;
 }
   where
-    by_test : (i : ℕ) (own yours : TableState) → i < at + 1 → slice_get new i ≡ Some own → slice_get others i ≡ Some yours → (b : Bool)
+    by_test : (i : ℕ) (own yours : TableState) → i < at + 1 → slice_get new i ≡ Some own → slice_get others_new i ≡ Some yours → (b : Bool)
         → nat_eq at i ≡ b → HasRoomToMerge own yours
     by_test i own yours less mine beside true here =
         let is = eqb-true at i here in
         let one : has.state ≡ own = let e = sym has.there ∙ ap (slice_get new) is ∙ mine in cc in
-        let two : other ≡ yours = let e = sym there ∙ ap (slice_get others) is ∙ beside in cc in
+        let two : has.other ≡ yours = let e = sym has.other_there ∙ ap (slice_get others_new) is ∙ beside in cc in
         subst (λ o. HasRoomToMerge o yours) one (subst (HasRoomToMerge has.state) two has.room)
     by_test i own yours less mine beside false apart =
         before.room i own yours (omega (arith, less, apart_by at i apart))
-        (sym (set_elsewhere current at i changes.after (apart_by at i apart)) ∙ ap (λ l. slice_get l i) (sym changes.now) ∙ mine) beside
+        (sym (set_elsewhere current at i changes.after (apart_by at i apart)) ∙ ap (λ l. slice_get l i) (sym changes.now) ∙ mine)
+        (sym (set_elsewhere others at i their_changes.after (apart_by at i apart)) ∙ ap (λ l. slice_get l i) (sym their_changes.now) ∙ beside)
 
 -- all were made
-pub all_made : (at : ℕ) (others first current : List TableState) → length others ≤ at → IsRoomMadeTo at others first current → HaveRoomToMerge current others
-all_made at others first current end made = λ i own other mine beside.
+pub all_made : (at : ℕ) (first your_first current others : List TableState) → length others ≤ at → IsRoomMadeTo at first your_first current others
+    → HaveRoomToMerge current others
+all_made at first your_first current others end made = λ i own other mine beside.
     made.room i own other (omega (arith, end, slice_get_within others i other beside)) mine beside
 
 -- the first tables were merged, and the others are as they were
@@ -188,6 +290,7 @@ pub record IsMergedTo (at : ℕ) (others first current : List TableState) : Type
 -- the next table may be merged
 pub may_merge : (at : ℕ) (other : TableState) (others first current : List TableState) → slice_get others at ≡ Some other → AreMatched first others
     → AreFew first others → HaveRoomToMerge first others → IsMergedTo at others first current → MayMergeAt at other current
+unfolding matched_at
 may_merge at other others first current there matched few room merged =
     let own = matched_at first others matched at other there in
     record {
@@ -348,6 +451,10 @@ pub record AreBoth (tables its : List Declaration) (mine yours : ℕ) (others : 
 pub its_state : (tables its : List Declaration) (yours : ℕ) (others : List TableState) (other : TotalState) → its ≡ tables
     → state_of its yours others ≡ other → state_of tables yours others ≡ other
 its_state tables its yours others other same is = ap (λ t. state_of t yours others) (sym same) ∙ is
+
+pub its_roomier : (tables : List Declaration) (yours : ℕ) (others roomy : List TableState) (other : TotalState) → ChangeRoomAlone others roomy
+    → state_of tables yours others ≡ other → state_of tables yours roomy ≡ other
+its_roomier tables yours others roomy other kept is = ap (λ rows. record { tables = tables; count = yours; rows = rows }) kept.rows ∙ is
 
 pub are_both : (tables its : List Declaration) (mine yours : ℕ) (states others : List TableState) (old other : TotalState) → state_of tables mine states ≡ old
     → state_of its yours others ≡ other → other.tables ≡ old.tables → old.count + other.count ≤ 2 ^ 63 → AreTables its yours others

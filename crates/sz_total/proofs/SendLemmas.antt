@@ -2,7 +2,7 @@
 -- Each type is proved from its parts, since a search through all of them stops at its limits.
 use denote.Ref.{NamedLft}
 use denote.Param.Send.{IsSend, IsSync, sendable, view_send, view_sync}
-use denote.Param.SendFields.{declared_sync, declared_send}
+use denote.Param.SendFields.{declared_send, declared_sync}
 use Rattle.std.proofs.Crossing.{crosses}
 use Rattle.sz_list.proofs.items.Items.TheSendSync as items
 use Rattle.sz_types.proofs.table.TableKind.TheSendSync as kind
@@ -15,6 +15,7 @@ use Rattle.sz_value.proofs.text.Text.TheSendSync as value_text
 use Rattle.sz_value.proofs.value.List.TheLaws.TheKnot as value
 use Rattle.indexmap.proofs.map.IndexMap.TheSendSync as index_map
 use Rattle.sz_flat.proofs.flat_list.FlatList.TheSendSync as flat
+use Rattle.sz_flat.proofs.ranked_list.RankedList.TheSendSync as ranked
 use Rattle.sz_types.specs.contracts.table.TableDecl as TableDecl
 use Rattle.sz_types.specs.contracts.tables.TableDecls as TableDecls
 use Rattle.std_alloc.proofs.collections.binary_heap.BinaryHeap.TheSendSync as heap
@@ -24,6 +25,7 @@ use Rattle.sz_members.specs.contracts.members.Members as Members
 use Rattle.sz_total.specs.contracts.aggregate.Aggregate as Aggregate
 use Rattle.sz_total.specs.contracts.in_order.Entry as Entry
 use Rattle.sz_total.specs.contracts.in_order.RowsInOrder as RowsInOrder
+use Rattle.sz_total.specs.contracts.part.Part as Part
 use Rattle.sz_total.specs.contracts.one_table.OneTable as OneTable
 use Rattle.sz_total.specs.contracts.total.Total as Total
 
@@ -146,6 +148,26 @@ module _ (κ : NamedLft) where
   aggregate_sync : IsSync (Aggregate.the_row κ)
   aggregate_sync = let a = sum_sync in let b = extreme_sync in let c = members_sync in search parts depth 30
 
+  pub part_send : IsSend (Part.the_row κ)
+  part_send =
+      view_send _ _ _ _ _ (declared_send (Part.TheInside.the_type κ) (
+        search parts depth 30,
+        (
+          search (parts, aggregate_send, index_map.the_send, flat.the_send) depth 30,
+          (search (parts, aggregate_send, index_map.the_send, flat.the_send) depth 30, tt),
+        ),
+      ))
+
+  pub part_sync : IsSync (Part.the_row κ)
+  part_sync =
+      view_sync _ _ _ _ _ (declared_sync (Part.TheInside.the_type κ) (
+        search parts depth 30,
+        (
+          search (parts, aggregate_sync, index_map.the_sync, flat.the_sync) depth 30,
+          (search (parts, aggregate_sync, index_map.the_sync, flat.the_sync) depth 30, tt),
+        ),
+      ))
+
   one_table_send : IsSend (OneTable.the_row κ)
   one_table_send =
       view_send _ _ _ _ _ (declared_send (OneTable.TheInside.the_type κ) (
@@ -155,8 +177,8 @@ module _ (κ : NamedLft) where
           (
             search parts depth 30,
             (
-              search parts depth 30,
-              (search (parts, aggregate_send, index_map.the_send) depth 30, (search (parts, flat.the_send) depth 30, tt)),
+              search (parts, part_send) depth 30,
+              (search (parts, flat.the_send) depth 30, tt),
             ),
           ),
         ),
@@ -171,8 +193,8 @@ module _ (κ : NamedLft) where
           (
             search parts depth 30,
             (
-              search parts depth 30,
-              (search (parts, aggregate_sync, index_map.the_sync) depth 30, (search (parts, flat.the_sync) depth 30, tt)),
+              search (parts, part_sync) depth 30,
+              (search (parts, flat.the_sync) depth 30, tt),
             ),
           ),
         ),
@@ -204,7 +226,7 @@ rows_sync ρ κ =
     let aggregate = aggregate_sync κ in
     let entry : IsSync (Entry.the_row ρ κ) =
     view_sync _ _ _ _ _ (declared_sync (Entry.TheInside.the_type ρ κ) (
-      search (parts, flat.the_sync) depth 30,
+      search (parts, flat.the_sync, ranked.the_sync) depth 30,
       (search (parts, aggregate) depth 30, tt),
     )) in
     view_sync _ _ _ _ _ (declared_sync (RowsInOrder.TheInside.the_type ρ κ) (search (parts, entry) depth 30, tt))

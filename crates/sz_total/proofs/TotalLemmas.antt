@@ -17,19 +17,24 @@ use Rattle.sz_tabs.specs.Fitting.{Fits, IsEmitTo}
 use Rattle.sz_total.specs.Tables.{table_rows}
 use Rattle.sz_total.specs.Totals.{StandsFor, IsNew, Gains}
 use Rattle.sz_total.specs.States.{TotalState, declarations, emit_count, shown}
-use Rattle.sz_total.specs.Entries.{Entries, TakesEmit}
+use Rattle.sz_total.specs.Entries.{TakesEmit}
+use Rattle.sz_total.specs.Parts.{PartState, entries_of}
 use Rattle.sz_total.specs.OneTable.{TableState, table_shown, GainsEmit, AreTables, HasRoomFor, GainsAt, new_table, state_of}
 use Rattle.sz_total.specs.Weights.{HasItsWeights, HaveTheirWeights}
 use Rattle.sz_total.proofs.EntryLemmas.{rows_with_emit}
 use Rattle.sz_total.proofs.ListLemmas.{rows_elsewhere}
 
--- what the model of a table sees of its aggregators that took an emit
-pub table_gained : (table : Declaration) (count : ℕ) (emit : EmitDatum) (old new : Entries) (state : TableState)
-    → (room : ℕ) → (record { table = table; count = count; entries = old; room = room }) ≡ state → TakesEmit table emit old new
-    → GainsEmit state (record { table = table; count = count + 1; entries = new; room = room }) emit
-table_gained table count emit old new state room is takes =
-    subst (λ s. GainsEmit s (record { table = table; count = count + 1; entries = new; room = room }) emit) is
-    (record { same_table = refl; one_more = refl; rows = λ emits before. rows_with_emit emit.table table emits emit old new refl takes before })
+-- what the model of a table sees of its parts that took an emit
+pub table_gained : (table : Declaration) (count : ℕ) (emit : EmitDatum) (old new : List PartState) (state : TableState)
+    → (record { table = table; count = count; parts = old }) ≡ state → TakesEmit table emit (entries_of old) (entries_of new)
+    → GainsEmit state (record { table = table; count = count + 1; parts = new }) emit
+table_gained table count emit old new state is takes =
+    subst (λ s. GainsEmit s (record { table = table; count = count + 1; parts = new }) emit) is
+    (record {
+      same_table = refl;
+      one_more = refl;
+      rows = λ emits before. rows_with_emit emit.table table emits emit (entries_of old) (entries_of new) refl takes before;
+    })
 
 -- a declared table has its state
 pub state_at : (tables : List Declaration) (states : List TableState) → map (λ (s : TableState). s.table) states ≡ tables → (at : ℕ) (table : Declaration)

@@ -17,6 +17,7 @@ use Rattle.sz_members.specs.Code.{counted_code}
 use Rattle.sz_total.specs.Tables.{Indexed}
 use Rattle.sz_total.specs.States.{TotalState}
 use Rattle.sz_total.specs.Entries.{Entries}
+use Rattle.sz_total.specs.Parts.{PartState}
 use Rattle.sz_total.specs.OneTable.{TableState}
 use Rattle.sz_total.specs.declared.aggregate.Aggregate.{Aggregate}
 use Rattle.sz_total.specs.declared.aggregate.Aggregate.TheVariants.{Sum, Extreme, Members}
@@ -48,12 +49,18 @@ abbrev pub aggregate_code : Coded Aggregate
 aggregate_code =
     code_by (Summed ⊎ (Extremes ⊎ Counted)) (coded⊎ summed_code (coded⊎ extremes_code counted_code)) parts_of of_parts of_parts_again
 
+-- how a part of a table is stored
+abbrev pub part_code : Coded PartState
+part_code =
+    code_by (Entries × (ℕ × Entries))
+    (coded× (coded_list (coded× parts_code aggregate_code)) (coded× coded_ℕ (coded_list (coded× parts_code aggregate_code))))
+    (λ s. (s.entries, (s.room, s.arriving))) (λ p. record { entries = p.0; room = p.1.0; arriving = p.1.1 }) (λ _. refl)
+
 -- how a table is stored
 abbrev pub table_code : Coded TableState
 table_code =
-    code_by (Declaration × (Entries × (ℕ × ℕ)))
-    (coded× declaration_code (coded× (coded_list (coded× parts_code aggregate_code)) (coded× coded_ℕ coded_ℕ)))
-    (λ s. (s.table, (s.entries, (s.count, s.room)))) (λ p. record { table = p.0; entries = p.1.0; count = p.1.1.0; room = p.1.1.1 }) (λ _. refl)
+    code_by (Declaration × (ℕ × List PartState)) (coded× declaration_code (coded× coded_ℕ (coded_list part_code)))
+    (λ s. (s.table, (s.count, s.parts))) (λ p. record { table = p.0; count = p.1.0; parts = p.1.1 }) (λ _. refl)
 
 -- how all tables are stored
 abbrev pub total_code : Coded TotalState

@@ -12,6 +12,8 @@ pub mod Bounded
 pub mod Aggregates
 pub mod Entries
 pub mod Joining
+pub mod Parts
+pub mod Dealing
 pub mod OneTable
 pub mod Merging
 pub mod Code

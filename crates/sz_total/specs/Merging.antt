@@ -11,16 +11,20 @@ tables_of states = map (λ (s : TableState). s.table) states
 abbrev pub AreMatched : List TableState → List TableState → Type 0
 AreMatched states others = tables_of others ≡ tables_of states
 
--- the other table has the declaration of that at the place
-pub record IsMatchedAt (at : ℕ) (other : TableState) (states : List TableState) : Type 0 where
+-- the tables of both sides at the place have one declaration
+pub record IsMatchedAt (at : ℕ) (states others : List TableState) : Type 0 where
   pub state : TableState
   pub there : slice_get states at ≡ Some state
+  pub other : TableState
+  pub other_there : slice_get others at ≡ Some other
   pub same : other.table ≡ state.table
 
--- the table at the place has room for the other
-pub record HasRoomAt (at : ℕ) (other : TableState) (states : List TableState) : Type 0 where
+-- the table at the place has room for that of the other side
+pub record HasRoomAt (at : ℕ) (states others : List TableState) : Type 0 where
   pub state : TableState
   pub there : slice_get states at ≡ Some state
+  pub other : TableState
+  pub other_there : slice_get others at ≡ Some other
   pub room : HasRoomToMerge state other
 
 -- nothing changed but the room of the table at the place

@@ -1,32 +1,33 @@
 -- What contracts see of one table, and what one emit more does to it.
-use Rattle.std.specs.Prelude.{◌≡◌, ℕ, ◌+◌, ◌^◌, ◌<◌, ◌≤◌, Some, List, [], ◌∷◌, ◌++◌, All, length, map, set, slice_get}
+use Rattle.std.specs.Prelude.{◌≡◌, ◌⊎◌, ℕ, ◌+◌, ◌^◌, ◌<◌, ◌≤◌, Some, List, [], ◌∷◌, ◌++◌, All, length, map, set, slice_get}
 use Rattle.sz_types.specs.Tables.{Declaration}
 use Rattle.sz_tabs.specs.Data.{EmitDatum}
 use Rattle.sz_tabs.specs.Fitting.{Fits}
 use Rattle.sz_tabs.specs.Rows.{brought_by}
 use Rattle.sz_total.specs.Tables.{Indexed, table_rows}
-use Rattle.sz_total.specs.Entries.{Entries, AreOfTable, rows_in_order}
-use Rattle.sz_total.specs.Joining.{LooksTheSame, HaveRoomFor}
+use Rattle.sz_total.specs.Entries.{rows_in_order}
+use Rattle.sz_total.specs.Parts.{PartState, empty_part, entries_of, ArePlaced, ArePartsOf, AreSettled, HavePartRoom}
 use Rattle.sz_total.specs.Weights.{HasItsWeights}
 use Rattle.sz_total.specs.States.{TotalState}
 use Rattle.sz_total.specs.Origin.{ComesFromEmits}
 
--- a table's declaration, the number of emits to it, its aggregators, and for how many there is room
+-- a table's declaration, the number of emits to it, and its parts
 pub record TableState : Type 0 where
   pub table : Declaration
   pub count : ℕ
-  pub entries : Entries
-  pub room : ℕ
+  pub parts : List PartState
 
 -- its rows
 abbrev pub table_shown : TableState → List Indexed
-table_shown s = rows_in_order s.entries
+table_shown s = rows_in_order (entries_of s.parts)
 
--- the table has its weights, its aggregators are of the table, and there is the room that was made
-pub record IsKept (table : Declaration) (count : ℕ) (entries : Entries) (room capacity : ℕ) : Type 0 where
+-- the table has its weights, and one part or 16; each index list lies in its part, and nothing waits; the aggregators are of the table
+pub record IsKept (table : Declaration) (count : ℕ) (parts : List PartState) : Type 0 where
   pub weights : HasItsWeights table
-  pub aggregates : AreOfTable table count entries
-  pub taken : room ≤ capacity
+  pub one_or_many : (length parts ≡ 1) ⊎ (length parts ≡ 16)
+  pub placed : ArePlaced parts
+  pub aggregates : ArePartsOf table count parts
+  pub settled : AreSettled parts
 
 -- where the old rows are those of a list of emits, the new rows are those of one emit more
 pub record GainsEmit (old new : TableState) (emit : EmitDatum) : Type 0 where
@@ -35,16 +36,16 @@ pub record GainsEmit (old new : TableState) (emit : EmitDatum) : Type 0 where
   pub rows : (emits : List EmitDatum) → table_shown old ≡ table_rows emit.table old.table emits
       → table_shown new ≡ table_rows emit.table old.table (emits ++ emit ∷ [])
 
--- nothing changed but the room
+-- the same is shown, whatever room and parts there are now
 pub record ChangesRoomAlone (old new : TableState) : Type 0 where
   pub same_table : new.table ≡ old.table
   pub same_count : new.count ≡ old.count
-  pub aggregates : LooksTheSame old.entries new.entries
+  pub rows : table_shown new ≡ table_shown old
 
--- there is room for the other table: for its index lists, and in each aggregator
+-- the other table has as many parts, and each part has room for that with its number
 pub record HasRoomToMerge (own other : TableState) : Type 0 where
-  pub lists : length own.entries + length other.entries ≤ own.room
-  pub aggregates : HaveRoomFor own.entries other.entries
+  pub as_many : length other.parts ≡ length own.parts
+  pub parts : HavePartRoom own.parts other.parts
 
 -- where the rows of both are those of lists of emits to the table with a number, the new rows are those of both lists
 pub record JoinsTable (old other new : TableState) : Type 0 where
@@ -55,7 +56,7 @@ pub record JoinsTable (old other new : TableState) : Type 0 where
 
 -- a declared table before any emit
 abbrev pub new_table : Declaration → TableState
-new_table table = record { table = table; count = 0; entries = []; room = 0 }
+new_table table = record { table = table; count = 0; parts = empty_part ∷ [] }
 
 -- the emit fits the table with its number, which has room for it
 pub record HasRoomFor (emit : EmitDatum) (states : List TableState) : Type 0 where

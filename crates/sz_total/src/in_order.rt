@@ -1,12 +1,15 @@
 //! The index lists of a table in value order, each lent with its aggregator.
-ghost use Rattle.std.specs.Prelude.{◌≡◌, ◌<◌, length, map, slice_get, Some, IfOk, OnOk, IsPermutation};
+ghost use Rattle.std.specs.List.{IsDistinct};
+ghost use Rattle.std.specs.Map.{keys_of};
+ghost use Rattle.std.specs.Prelude.{◌≡◌, ◌<◌, ◌++◌, length, map, slice_get, Some, IfOk, OnOk, IsPermutation};
 ghost use Rattle.sz_tabs.specs.Rows.{compare_indexes};
 ghost use Rattle.sz_total.specs.Aggregates.{IsBounded};
-ghost use Rattle.sz_total.specs.Entries.{AreBounded, entry_rows, rows_in_order};
+ghost use Rattle.sz_total.specs.Entries.{AreBounded, entry_rows, rows_in_order, same_indexes};
+ghost use Rattle.sz_total.specs.Parts.{ArePlaced, entries_of};
 
 use crate::aggregate::{Aggregate, rows_shown};
-use crate::index_lists::IndexLists;
 use crate::indexed::{IndexedRows, TableRows};
+use crate::part::Part;
 use std::alloc::Global;
 use std::cmp::Ordering;
 use std::marker::Model;
@@ -87,11 +90,12 @@ impl<'t, 'a> RowsInOrder<'t, 'a> {
     // The index lists of a table, in value order.
     pub(crate) fn new(
         alloc: Global,
-        lists: &'t IndexLists<'a>,
+        parts: &'t Vec<Part<'a>>,
     ) -> Result<RowsInOrder<'t, 'a>, NoMemory>
-        ensures value { IfOk result (λ rows. rows ≡ rows_in_order lists.now.entries) }
+        requires placed { ArePlaced parts.now.items }
+        ensures value { IfOk result (λ rows. rows ≡ rows_in_order (entries_of parts.now.items)) }
     {
-        let entries = entries_in_order(alloc, lists)?;
+        let entries = entries_in_order(alloc, parts)?;
         Ok(RowsInOrder { entries })
     }
 
@@ -113,11 +117,12 @@ impl<'t, 'a> RowsInOrder<'t, 'a> {
 
 // The rows under each index list, these in value order.
 #[tactic(auto, using(crate::proofs::ReadLemmas::all_bounded))]
-pub(crate) fn all_rows<'a>(alloc: Global, lists: &IndexLists<'a>) -> Result<TableRows, NoMemory>
-    ensures value { IfOk result (λ rows. rows ≡ rows_in_order lists.now.entries) }
-    ensures bounded { OnOk result (AreBounded lists.now.entries) }
+pub(crate) fn all_rows<'a>(alloc: Global, parts: &Vec<Part<'a>>) -> Result<TableRows, NoMemory>
+    requires placed { ArePlaced parts.now.items }
+    ensures value { IfOk result (λ rows. rows ≡ rows_in_order (entries_of parts.now.items)) }
+    ensures bounded { OnOk result (AreBounded (entries_of parts.now.items)) }
 {
-    let entries = entries_in_order(alloc, lists)?;
+    let entries = entries_in_order(alloc, parts)?;
     let mut all = TableRows::with_capacity(alloc, entries.len())?;
     for entry in &entries {
         all.push(entry.rows(alloc)?)?;
@@ -128,16 +133,33 @@ pub(crate) fn all_rows<'a>(alloc: Global, lists: &IndexLists<'a>) -> Result<Tabl
 // The index lists with their aggregators, in value order. No two index lists are the same, so it doesn't matter how ties are sorted.
 fn entries_in_order<'t, 'a>(
     alloc: Global,
-    lists: &'t IndexLists<'a>,
+    parts: &'t Vec<Part<'a>>,
 ) -> Result<Vec<Entry<'t, 'a>>, NoMemory>
-    ensures value { IfOk result (λ entries. map entry_rows entries.items ≡ rows_in_order lists.now.entries) }
-    ensures same { IfOk result (λ entries. IsPermutation lists.now.entries entries.items) }
+    requires placed { ArePlaced parts.now.items }
+    ensures value { IfOk result (λ entries. map entry_rows entries.items ≡ rows_in_order (entries_of parts.now.items)) }
+    ensures same { IfOk result (λ entries. IsPermutation (entries_of parts.now.items) entries.items) }
 {
-    let mut entries = Vec::with_capacity(alloc, lists.len())?;
+    let mut entries = Vec::new(alloc);
+    for part in parts {
+        lend_entries(part, &mut entries)?;
+    }
+    entries.sort_unstable_by(|one, other| one.order(other));
+    Ok(entries)
+}
+
+// Lends the index lists of a part with their aggregators, after the others. No two of them are the same.
+fn lend_entries<'t, 'a>(
+    part: &'t Part<'a>,
+    entries: &mut Vec<Entry<'t, 'a>>,
+) -> Result<(), NoMemory>
+    ensures ok { OnOk result (entries.new.items ≡ entries.old.items ++ part.now.entries) }
+    ensures apart { IsDistinct same_indexes (keys_of part.now.entries) }
+{
+    let lists = part.lists();
+    entries.reserve(lists.len())?;
     for (key, aggregate) in lists {
         let key = RankedList::new(key);
         entries.push(Entry { key, aggregate })?;
     }
-    entries.sort_unstable_by(|one, other| one.order(other));
-    Ok(entries)
+    Ok(())
 }

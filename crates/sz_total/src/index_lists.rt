@@ -69,7 +69,7 @@ fn is_first_without_indexes<'a>(lists: &IndexLists<'a>) -> bool
 }
 
 // The same, with the aggregator found by hashing the key.
-fn take_hashed<'a>(
+pub(crate) fn take_hashed<'a>(
     alloc: Global,
     table: &'a TableDecl,
     lists: &mut IndexLists<'a>,

@@ -3,12 +3,16 @@
 
 mod aggregate;
 mod boxed;
+mod dealing;
+mod hands;
 mod in_order;
 mod index_lists;
 mod indexed;
 mod joining;
 mod laws;
 mod one_table;
+mod part;
+mod parts;
 mod total;
 
 pub use in_order::RowsInOrder;

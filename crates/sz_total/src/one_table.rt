@@ -1,32 +1,37 @@
 //! One table, and its calls.
-ghost use Rattle.std.specs.Prelude.{◌≡◌, ◌<◌, ◌≤◌, ◌+◌, ◌*◌, ◌^◌, [], IfOk, OnOk, OnErr};
+ghost use Rattle.std.specs.Prelude.{◌≡◌, ◌<◌, ◌≤◌, ◌+◌, ◌*◌, ◌^◌, ◌⊎◌, [], ◌∷◌, length, IfOk, OnOk, OnErr};
 ghost use Rattle.sz_types.specs.SeenTables.{seen_table};
 ghost use Rattle.sz_tabs.specs.Fitting.{Fits};
 ghost use Rattle.sz_tabs.specs.Rows.{brought_by};
 ghost use Rattle.sz_total.specs.Bounded.{SumsAreWithin};
-ghost use Rattle.sz_total.specs.OneTable.{table_shown, GainsEmit, ChangesRoomAlone, HasRoomToMerge, JoinsTable};
+ghost use Rattle.sz_total.specs.OneTable.{new_table, table_shown, GainsEmit, ChangesRoomAlone, HasRoomToMerge, JoinsTable};
 ghost use Rattle.sz_total.specs.Short.{HasShortParts};
 ghost use Rattle.sz_total.specs.Weights.{HasItsWeights};
 
+use crate::dealing::deal_out;
+use crate::hands::Hands;
 use crate::in_order::{RowsInOrder, all_rows};
-use crate::index_lists::{IndexLists, no_lists, take_emit};
 use crate::indexed::TableRows;
-use crate::joining::{make_room, take_all};
+use crate::part::Part;
+use crate::parts::{add_to_part, receive_all, reserve_parts};
 use std::alloc::Global;
 use std::marker::Model;
 use sz_flat::FlatList;
 use sz_tabs::{Emit, NoMemory};
 use sz_types::TableDecl;
 
-/// What was emitted to one table, index list by index list, and the room in which the index list of an emit is spelled. Contracts see
-/// its declaration, the number of emits, the aggregators, and for how many there is room.
+// From how many index lists on two tables are merged part by part.
+const LARGE: usize = 4096;
+
+/// What was emitted to one table, index list by index list, and the room in which the index list of an emit is spelled. The index lists
+/// lie in one part, or in 16 once a large table was merged with another. Contracts see its declaration, the number of emits, and its
+/// parts.
 #[derive(Drop)]
 pub(crate) struct OneTable<'a> {
     alloc: Global,
     table: &'a TableDecl,
     count: u64,
-    room: usize,
-    lists: IndexLists<'a>,
+    parts: Vec<Part<'a>>,
     key: FlatList,
 }
 
@@ -39,29 +44,28 @@ impl<'a> Model for OneTable<'a> {
     ghost coded = { table_code };
 
     ghost use Rattle.sz_types.specs.SeenTables.{seen_table};
-    ghost use Rattle.std.specs.Prelude.{◌+◌};
-    ghost use Rattle.indexmap.specs.IndexMap.{index_map_len, spare};
     ghost use Rattle.sz_total.specs.OneTable.{IsKept};
 
-    ghost view = { λ t. record { table = seen_table t.table.now; count = t.count; entries = t.lists.entries; room = t.room } };
+    ghost view = { λ t. record { table = seen_table t.table.now; count = t.count; parts = t.parts.items } };
 
-    ghost invariant = { λ t. IsKept (seen_table t.table.now) t.count t.lists.entries t.room (index_map_len t.lists + spare t.lists) };
+    ghost invariant = { λ t. IsKept (seen_table t.table.now) t.count t.parts.items };
 }
 
 impl<'a> OneTable<'a> {
-    /// A table before any emit. It takes no memory.
-    pub(crate) fn new(alloc: Global, table: &'a TableDecl) -> OneTable<'a>
+    /// A table before any emit.
+    pub(crate) fn new(alloc: Global, table: &'a TableDecl) -> Result<OneTable<'a>, NoMemory>
         requires weights { HasItsWeights (seen_table table.now) }
-        ensures value { result ≡ record { table = seen_table table.now; count = 0; entries = []; room = 0 } }
+        ensures value { IfOk result (λ state. state ≡ new_table (seen_table table.now)) }
     {
-        OneTable {
+        let mut parts = Vec::new(alloc);
+        parts.push(Part::new(alloc))?;
+        Ok(OneTable {
             alloc,
             table,
             count: 0,
-            room: 0,
-            lists: no_lists(alloc),
+            parts,
             key: FlatList::new(alloc),
-        }
+        })
     }
 
     /// Adds an emit to this table.
@@ -72,31 +76,73 @@ impl<'a> OneTable<'a> {
         ensures ok { OnOk result (GainsEmit self.old self.new emit.now) }
         ensures err { OnErr result (self.new ≡ self.old) }
     {
-        take_emit(self.alloc, self.table, &mut self.lists, &mut self.key, emit)?;
+        add_to_part(self.alloc, self.table, &mut self.parts, &mut self.key, emit)?;
         self.count += 1;
         Ok(())
     }
 
-    /// Makes room for a merge of the other table, which has the same declaration.
-    pub(crate) fn reserve(&mut self, other: &OneTable<'a>) -> Result<(), NoMemory>
-        requires same { other.now.table ≡ self.old.table }
-        ensures ok { OnOk result (HasRoomToMerge self.new other.now) }
+    /// Makes room for a merge of the other table, which has the same declaration. Where both are large, or either has parts, both are
+    /// dealt out to parts.
+    pub(crate) fn reserve(&mut self, other: &mut OneTable<'a>) -> Result<(), NoMemory>
+        requires same { other.old.table ≡ self.old.table }
+        ensures ok { OnOk result (HasRoomToMerge self.new other.new) }
+        ensures kept { ChangesRoomAlone self.old self.new }
+        ensures other { ChangesRoomAlone other.old other.new }
+    {
+        self.deal_beside(other)?;
+        self.reserve_beside(other)
+    }
+
+    // Deals the index lists of both tables out to parts, where both are large or either has parts.
+    fn deal_beside(&mut self, other: &mut OneTable<'a>) -> Result<(), NoMemory>
+        ensures ok { OnOk result (length other.new.parts ≡ length self.new.parts) }
+        ensures kept { ChangesRoomAlone self.old self.new }
+        ensures other { ChangesRoomAlone other.old other.new }
+    {
+        if self.parts.len() == other.parts.len() && !(self.is_large() && other.is_large()) {
+            return Ok(());
+        }
+        self.deal()?;
+        other.deal()
+    }
+
+    // Whether many index lists lie in its first part.
+    fn is_large(&self) -> bool {
+        self.parts[0].lists().len() > LARGE
+    }
+
+    // Deals the index lists out to 16 parts.
+    fn deal(&mut self) -> Result<(), NoMemory>
+        ensures ok { OnOk result (length self.new.parts ≡ 16) }
         ensures kept { ChangesRoomAlone self.old self.new }
     {
-        make_room(&mut self.lists, &other.lists)?;
-        self.room = self.lists.capacity();
+        if self.parts.len() == 1 {
+            deal_out(self.alloc, &mut self.parts)?;
+        }
         Ok(())
     }
 
+    // Makes room in each part for that of the other table, which has as many.
+    fn reserve_beside(&mut self, other: &OneTable<'a>) -> Result<(), NoMemory>
+        requires same { other.now.table ≡ self.old.table }
+        requires as_many { length other.now.parts ≡ length self.old.parts }
+        ensures ok { OnOk result (HasRoomToMerge self.new other.now) }
+        ensures kept { ChangesRoomAlone self.old self.new }
+    {
+        reserve_parts(&mut self.parts, &other.parts)
+    }
+
     /// Merges the other table, for which there is room.
-    pub(crate) fn merge(&mut self, other: OneTable<'a>)
+    pub(crate) fn merge<H: Hands>(&mut self, other: OneTable<'a>, hands: &H)
+        requires hands { H.may_share }
         requires same { other.table ≡ self.old.table }
         requires few { self.old.count + other.count ≤ 2 ^ 63 }
         requires room { HasRoomToMerge self.old other }
         ensures value { JoinsTable self.old other.entry self.new }
     {
         self.count += other.count;
-        take_all(&mut self.lists, other.lists);
+        receive_all(&mut self.parts, other.parts);
+        hands.settle_all(self.alloc, &mut self.parts);
     }
 
     /// The rows, with the index lists in value order.
@@ -104,13 +150,13 @@ impl<'a> OneTable<'a> {
         ensures value { IfOk result (λ rows. rows ≡ table_shown self.now) }
         ensures within { OnOk result (SumsAreWithin (2 ^ 63 * self.now.count) (table_shown self.now)) }
     {
-        all_rows(self.alloc, &self.lists)
+        all_rows(self.alloc, &self.parts)
     }
 
     /// The same rows, of which those under one index list at a time can be asked for.
     pub(crate) fn in_order(&self) -> Result<RowsInOrder<'_, 'a>, NoMemory>
         ensures value { IfOk result (λ rows. rows ≡ table_shown self.now) }
     {
-        RowsInOrder::new(self.alloc, &self.lists)
+        RowsInOrder::new(self.alloc, &self.parts)
     }
 }

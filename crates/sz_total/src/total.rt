@@ -11,6 +11,7 @@ ghost use Rattle.sz_total.specs.States.{declarations, emit_count, shown};
 ghost use Rattle.sz_total.specs.Totals.{IsNew, Gains, Joins};
 ghost use Rattle.sz_total.specs.Weights.{HaveTheirWeights};
 
+use crate::hands::{Alone, Hands, InThreads};
 use crate::in_order::RowsInOrder;
 use crate::indexed::TableRows;
 use crate::one_table::OneTable;
@@ -83,36 +84,22 @@ impl<'a> Total<'a> {
         ensures ok { OnOk result (Joins declarations emit_count shown self.old other.entry self.new) }
         ensures err { IfErr result (λ back. (back ≡ other.entry) × (self.new ≡ self.old)) }
     {
-        if reserve_all(&mut self.states, &other.states).is_err() {
-            return Err(other);
-        }
-        self.count += other.count;
-        merge_all(&mut self.states, other.states);
-        Ok(())
+        self.merge_with(other, &Alone)
     }
 
     /// Merges the other side as `merge` does, with the same promise. The side with more emits takes in the other's entries, which are
     /// moved over one by one; since tables forget the order of emits, nobody can see which side it was.
-    pub fn absorb(&mut self, mut other: Total<'a>) -> Result<(), Total<'a>>
+    pub fn absorb(&mut self, other: Total<'a>) -> Result<(), Total<'a>>
         requires same { other.tables ≡ self.old.tables }
         requires room { self.old.count + other.count ≤ 2 ^ 63 }
         ensures ok { OnOk result (Joins declarations emit_count shown self.old other.entry self.new) }
         ensures err { IfErr result (λ back. (back ≡ other.entry) × (self.new ≡ self.old)) }
     {
-        if other.emits() <= self.emits() {
-            return self.merge(other);
-        }
-        mem::swap(self, &mut other);
-        match self.merge(other) {
-            Ok(()) => Ok(()),
-            Err(mut back) => {
-                mem::swap(self, &mut back);
-                Err(back)
-            }
-        }
+        self.absorb_with(other, &Alone)
     }
 
-    /// Absorbs the other side as `absorb` does, with the same promise, in at most so many threads.
+    /// Absorbs the other side as `absorb` does, with the same promise, in at most so many threads. They are started for the tables that
+    /// are large on both sides.
     pub fn absorb_by<R: Threads + Sync>(
         &mut self,
         rt: &R,
@@ -125,7 +112,45 @@ impl<'a> Total<'a> {
         ensures ok { OnOk result (Joins declarations emit_count shown self.old other.entry self.new) }
         ensures err { IfErr result (λ back. (back ≡ other.entry) × (self.new ≡ self.old)) }
     {
-        self.absorb(other)
+        let hands = InThreads { rt, threads };
+        self.absorb_with(other, &hands)
+    }
+
+    // Absorbs the other side by these hands.
+    fn absorb_with<H: Hands>(&mut self, mut other: Total<'a>, hands: &H) -> Result<(), Total<'a>>
+        requires hands { H.may_share }
+        requires same { other.tables ≡ self.old.tables }
+        requires room { self.old.count + other.count ≤ 2 ^ 63 }
+        ensures ok { OnOk result (Joins declarations emit_count shown self.old other.entry self.new) }
+        ensures err { IfErr result (λ back. (back ≡ other.entry) × (self.new ≡ self.old)) }
+    {
+        if other.emits() <= self.emits() {
+            return self.merge_with(other, hands);
+        }
+        mem::swap(self, &mut other);
+        match self.merge_with(other, hands) {
+            Ok(()) => Ok(()),
+            Err(mut back) => {
+                mem::swap(self, &mut back);
+                Err(back)
+            }
+        }
+    }
+
+    // Merges the other side by these hands. Where it is refused, either side may have been dealt out to parts, which nobody can see.
+    fn merge_with<H: Hands>(&mut self, mut other: Total<'a>, hands: &H) -> Result<(), Total<'a>>
+        requires hands { H.may_share }
+        requires same { other.tables ≡ self.old.tables }
+        requires room { self.old.count + other.count ≤ 2 ^ 63 }
+        ensures ok { OnOk result (Joins declarations emit_count shown self.old other.entry self.new) }
+        ensures err { IfErr result (λ back. (back ≡ other.entry) × (self.new ≡ self.old)) }
+    {
+        if reserve_all(&mut self.states, &mut other.states).is_err() {
+            return Err(other);
+        }
+        self.count += other.count;
+        merge_all(&mut self.states, other.states, hands);
+        Ok(())
     }
 
     /// The rows of the table at a place, with the index lists in value order.
@@ -164,7 +189,7 @@ fn all_new<'a>(alloc: Global, tables: &'a TableDecls) -> Result<Vec<OneTable<'a>
 {
     let mut states = Vec::with_capacity(alloc, tables.len())?;
     for table in tables.as_slice() {
-        states.push(OneTable::new(alloc, table))?;
+        states.push(OneTable::new(alloc, table)?)?;
     }
     Ok(states)
 }
@@ -183,34 +208,38 @@ fn add_at<'a>(states: &mut Vec<OneTable<'a>>, emit: &Emit) -> Result<(), NoMemor
 // Makes room in each table for that of the other side.
 fn reserve_all<'a>(
     states: &mut Vec<OneTable<'a>>,
-    others: &Vec<OneTable<'a>>,
+    others: &mut Vec<OneTable<'a>>,
 ) -> Result<(), NoMemory>
-    requires matched { AreMatched states.old.items others.now.items }
-    ensures ok { OnOk result (HaveRoomToMerge states.new.items others.now.items) }
+    requires matched { AreMatched states.old.items others.old.items }
+    ensures ok { OnOk result (HaveRoomToMerge states.new.items others.new.items) }
     ensures kept { ChangeRoomAlone states.old.items states.new.items }
+    ensures others { ChangeRoomAlone others.old.items others.new.items }
 {
-    for (at, other) in others.iter().enumerate() {
-        reserve_at(states, at, other)?;
+    for at in 0..others.len() {
+        reserve_at(states, others, at)?;
     }
     Ok(())
 }
 
-// Makes room in the table at a place.
+// Makes room in the table at a place for that of the other side.
 fn reserve_at<'a>(
     states: &mut Vec<OneTable<'a>>,
+    others: &mut Vec<OneTable<'a>>,
     at: usize,
-    other: &OneTable<'a>,
 ) -> Result<(), NoMemory>
-    requires matched { IsMatchedAt at other.now states.old.items }
-    ensures ok { OnOk result (HasRoomAt at other.now states.new.items) }
+    requires matched { IsMatchedAt at states.old.items others.old.items }
+    ensures ok { OnOk result (HasRoomAt at states.new.items others.new.items) }
     ensures kept { ChangesRoomAt at states.old.items states.new.items }
+    ensures others { ChangesRoomAt at others.old.items others.new.items }
 {
     let table = &mut states[at];
+    let other = &mut others[at];
     table.reserve(other)
 }
 
 // Merges each table of the other side, for which there is room.
-fn merge_all<'a>(states: &mut Vec<OneTable<'a>>, others: Vec<OneTable<'a>>)
+fn merge_all<'a, H: Hands>(states: &mut Vec<OneTable<'a>>, others: Vec<OneTable<'a>>, hands: &H)
+    requires hands { H.may_share }
     requires matched { AreMatched states.old.items others.items }
     requires few { AreFew states.old.items others.items }
     requires room { HaveRoomToMerge states.old.items others.items }
@@ -218,16 +247,17 @@ fn merge_all<'a>(states: &mut Vec<OneTable<'a>>, others: Vec<OneTable<'a>>)
 {
     let mut at = 0;
     for other in others {
-        merge_at(states, at, other);
+        merge_at(states, at, other, hands);
         at += 1;
     }
 }
 
 // Merges a table with that at a place, which has room for it.
-fn merge_at<'a>(states: &mut Vec<OneTable<'a>>, at: usize, other: OneTable<'a>)
+fn merge_at<'a, H: Hands>(states: &mut Vec<OneTable<'a>>, at: usize, other: OneTable<'a>, hands: &H)
+    requires hands { H.may_share }
     requires may { MayMergeAt at other states.old.items }
     ensures value { MergesAt at other.entry states.old.items states.new.items }
 {
     let table = &mut states[at];
-    table.merge(other);
+    table.merge(other, hands);
 }

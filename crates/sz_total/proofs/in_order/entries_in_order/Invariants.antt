@@ -1,6 +1,6 @@
--- The entries so far and those that are left are all entries.
-use Rattle.std.proofs.Common.{◌≡◌, ◌++◌}
+-- The entries of the parts so far are lent.
+use Rattle.sz_total.proofs.ReadLemmas.{AreLent}
 use Rattle.sz_total.proofs.in_order.entries_in_order.Given as goal
 
-abbrev pub invariant-loop-key : goal.invariant-loop-key
-invariant-loop-key l = l.entries.items ++ l.key-iterator ≡ l.lists.entries
+abbrev pub invariant-loop-part : goal.invariant-loop-part
+invariant-loop-part l = AreLent l.parts.items l.part-index l.entries.items

@@ -6,17 +6,18 @@ use Rattle.sz_total.proofs.MergingLemmas.{found_after, may_merge, merged_more, a
 use Rattle.sz_total.proofs.total.merge_all.Goals as goal
 
 pub merge_at-requires : goal.merge_at-requires
-merge_at-requires c =
+merge_at-requires g c =
     let l = c.loop-other in
     let all = ap (λ rest. l.yielded ++ rest) (sym c.in-Some.ensures.steps.0) ∙ l.invariant.1 in
     let there = found_after l.yielded c.in-Some.other (into_iter_items c.next.new.self) c.args.others.items l.at l.invariant.0 all in
     record {
+      hands = c.requires.hands;
       may = may_merge l.at c.in-Some.other c.args.others.items c.args.states.now.items l.states.items there c.requires.matched c.requires.few c.requires.room
           l.invariant.3;
     }
 
 pub loop-other-preserved : goal.loop-other-preserved
-loop-other-preserved c =
+loop-other-preserved g c =
     let l = c.loop-other in
     let rest = into_iter_items c.next.new.self in
     let all = ap (λ rest. l.yielded ++ rest) (sym c.in-Some.ensures.steps.0) ∙ l.invariant.1 in
@@ -29,7 +30,7 @@ loop-other-preserved c =
     )
 
 pub returns : goal.returns
-returns c =
+returns g c =
     let l = c.loop-other in
     record {
       value = all_merged l.at c.args.others.items c.args.states.now.items l.states.items

@@ -5,7 +5,7 @@ use Rattle.sz_total.proofs.MergingLemmas.{IsMergedTo}
 use Rattle.sz_total.proofs.total.merge_all.Given as goal
 
 abbrev pub invariant-loop-other : goal.invariant-loop-other
-invariant-loop-other l =
+invariant-loop-other g l =
     (l.at ≡ length l.yielded)
     × (l.yielded ++ into_iter_items l.other-iterator ≡ l.fn.others.items)
     × (into_iter_len l.other-iterator ≡ length (into_iter_items l.other-iterator))
