@@ -13,6 +13,9 @@ pub(crate) trait Hands {
     // What has to be known of what they share.
     ghost may_share: { Type 0 };
 
+    // Whether parts of a table are joined at the same time.
+    fn are_many(&self) -> bool;
+
     // Joins what waits at each part. There is room for it.
     fn settle_all<'a>(&self, alloc: Global, parts: &mut Vec<Part<'a>>)
         requires hands { may_share }
@@ -26,6 +29,10 @@ pub(crate) struct Alone;
 
 impl Hands for Alone {
     ghost may_share = { ⊤ };
+
+    fn are_many(&self) -> bool {
+        false
+    }
 
     fn settle_all<'a>(&self, alloc: Global, parts: &mut Vec<Part<'a>>) {
         settle_one_by_one(alloc, parts);
@@ -42,6 +49,10 @@ pub(crate) struct InThreads<'r, R: Threads + Sync> {
 
 impl<'r, R: Threads + Sync> Hands for InThreads<'r, R> {
     ghost may_share = { IsSync R.row };
+
+    fn are_many(&self) -> bool {
+        self.threads > 1
+    }
 
     fn settle_all<'a>(&self, alloc: Global, parts: &mut Vec<Part<'a>>) {
         if parts.len() == 1 {

@@ -81,25 +81,26 @@ impl<'a> OneTable<'a> {
         Ok(())
     }
 
-    /// Makes room for a merge of the other table, which has the same declaration. Where both are large, or either has parts, both are
-    /// dealt out to parts.
-    pub(crate) fn reserve(&mut self, other: &mut OneTable<'a>) -> Result<(), NoMemory>
+    /// Makes room for a merge of the other table, which has the same declaration. Where threads share it and both are large, or either has
+    /// parts, both are dealt out to parts.
+    pub(crate) fn reserve(&mut self, other: &mut OneTable<'a>, shared: bool) -> Result<(), NoMemory>
         requires same { other.old.table ≡ self.old.table }
         ensures ok { OnOk result (HasRoomToMerge self.new other.new) }
         ensures kept { ChangesRoomAlone self.old self.new }
         ensures other { ChangesRoomAlone other.old other.new }
     {
-        self.deal_beside(other)?;
+        self.deal_beside(other, shared)?;
         self.reserve_beside(other)
     }
 
-    // Deals the index lists of both tables out to parts, where both are large or either has parts.
-    fn deal_beside(&mut self, other: &mut OneTable<'a>) -> Result<(), NoMemory>
+    // Deals the index lists of both tables out to parts, where threads share the merge and both are large, or either has parts.
+    fn deal_beside(&mut self, other: &mut OneTable<'a>, shared: bool) -> Result<(), NoMemory>
         ensures ok { OnOk result (length other.new.parts ≡ length self.new.parts) }
         ensures kept { ChangesRoomAlone self.old self.new }
         ensures other { ChangesRoomAlone other.old other.new }
     {
-        if self.parts.len() == other.parts.len() && !(self.is_large() && other.is_large()) {
+        let worth = shared && self.is_large() && other.is_large();
+        if self.parts.len() == other.parts.len() && !worth {
             return Ok(());
         }
         self.deal()?;

@@ -145,7 +145,7 @@ impl<'a> Total<'a> {
         ensures ok { OnOk result (Joins declarations emit_count shown self.old other.entry self.new) }
         ensures err { IfErr result (λ back. (back ≡ other.entry) × (self.new ≡ self.old)) }
     {
-        if reserve_all(&mut self.states, &mut other.states).is_err() {
+        if reserve_all(&mut self.states, &mut other.states, hands.are_many()).is_err() {
             return Err(other);
         }
         self.count += other.count;
@@ -209,6 +209,7 @@ fn add_at<'a>(states: &mut Vec<OneTable<'a>>, emit: &Emit) -> Result<(), NoMemor
 fn reserve_all<'a>(
     states: &mut Vec<OneTable<'a>>,
     others: &mut Vec<OneTable<'a>>,
+    shared: bool,
 ) -> Result<(), NoMemory>
     requires matched { AreMatched states.old.items others.old.items }
     ensures ok { OnOk result (HaveRoomToMerge states.new.items others.new.items) }
@@ -216,7 +217,7 @@ fn reserve_all<'a>(
     ensures others { ChangeRoomAlone others.old.items others.new.items }
 {
     for at in 0..others.len() {
-        reserve_at(states, others, at)?;
+        reserve_at(states, others, at, shared)?;
     }
     Ok(())
 }
@@ -226,6 +227,7 @@ fn reserve_at<'a>(
     states: &mut Vec<OneTable<'a>>,
     others: &mut Vec<OneTable<'a>>,
     at: usize,
+    shared: bool,
 ) -> Result<(), NoMemory>
     requires matched { IsMatchedAt at states.old.items others.old.items }
     ensures ok { OnOk result (HasRoomAt at states.new.items others.new.items) }
@@ -234,7 +236,7 @@ fn reserve_at<'a>(
 {
     let table = &mut states[at];
     let other = &mut others[at];
-    table.reserve(other)
+    table.reserve(other, shared)
 }
 
 // Merges each table of the other side, for which there is room.
