@@ -1,7 +1,6 @@
 -- Index lists that are dealt to parts: each part gets its share, and the same is shown.
-use Rattle.std.proofs.Common.{◌≡◌, ◌∙◌, ℕ, zero, suc, ◌+◌, ◌≤◌, ◌<◌, ◌⊎◌, inl, inr, Bool, true, false, cond, true≢false, Option, Some, None, List, [], ◌∷◌}
-use Rattle.std.proofs.Common.{◌++◌, length, filter, refl, sym, ap, subst, arith, All, nat_eq, is_some}
-use Rattle.std.specs.Prelude.{set, slice_get}
+use Rattle.std.proofs.Common.{◌≡◌, ◌∙◌, ℕ, zero, suc, ◌≤◌, ◌<◌, ◌⊎◌, inl, inr, Bool, true, false, cond, true≢false, Some, None, List, [], ◌∷◌}
+use Rattle.std.proofs.Common.{◌++◌, length, refl, sym, ap, subst, arith, nat_eq, is_some}
 use Rattle.std.specs.Option.{option_map_or}
 use Rattle.std.specs.List.{AllByRecursion, IsDistinct}
 use Rattle.std.specs.Map.{keys_of, values_of, lookup}
@@ -18,7 +17,7 @@ use Rattle.sz_total.specs.Entries.{Entries, same_indexes, rows_in_order, IsOfTab
 use Rattle.sz_total.specs.Parts.{PartState, empty_part, part_at, part_of, entries_of, IsPlaced, ArePlaced, ArePartsOf, AreSettled}
 use Rattle.sz_total.specs.Dealing.{lies_in, share_of, HasShare, HaveShares, MayPut, PutsLast}
 use Rattle.sz_total.specs.declared.aggregate.Aggregate.{Aggregate}
-use Rattle.sz_total.proofs.ListLemmas.{same_laws, same_is, is_among}
+use Rattle.sz_total.proofs.ListLemmas.{same_laws, same_is}
 use Rattle.sz_total.proofs.PartLemmas.{found_in_part, shown_alike, nothing_past}
 use Rattle.sz_total.proofs.PartsLemmas.{as_many_set, written, unwritten}
 

@@ -12,8 +12,6 @@ use Rattle.std.proofs.lemmas.List.Elements.{All-set, All-head, All-tail, All-con
 use Rattle.std.proofs.lemmas.Option.{slice_get-map, slice_get_within, get_or_from_slice_get}
 use Rattle.sz_types.specs.Tables.{Declaration}
 use Rattle.sz_tabs.specs.Data.{EmitDatum}
-use Rattle.sz_tabs.specs.Rows.{compare_indexes}
-use Rattle.sz_tabs.specs.Sorting.{distinct}
 use Rattle.sz_total.specs.Tables.{table_rows}
 use Rattle.sz_total.specs.Totals.{StandsFor, Joins}
 use Rattle.sz_total.specs.States.{TotalState, declarations, emit_count, shown}

@@ -10,8 +10,8 @@ use Rattle.sz_tabs.specs.Data.{EmitDatum}
 use Rattle.sz_total.specs.Aggregates.{family_of, family_for}
 use Rattle.sz_total.specs.Dealing.{HaveShares}
 use Rattle.sz_total.specs.Entries.{IsOfTable, AreOfTable}
-use Rattle.sz_total.specs.OneTable.{TableState, IsKept, ChangesRoomAlone, HasRoomToMerge}
-use Rattle.sz_total.specs.Parts.{PartState, empty_part, part_at, part_of, entries_of, IsPlaced, ArePartsOf, IsPartOf, ArePartsAlike, PartTakesEmit, PartsLookTheSame, HavePartRoom}
+use Rattle.sz_total.specs.OneTable.{TableState, IsKept, ChangesRoomAlone}
+use Rattle.sz_total.specs.Parts.{PartState, empty_part, part_at, part_of, entries_of, IsPlaced, ArePartsOf, IsPartOf, ArePartsAlike, PartTakesEmit, PartsLookTheSame}
 use Rattle.sz_total.specs.Weights.{HasItsWeights}
 use Rattle.sz_total.specs.declared.aggregate.Aggregate.{Aggregate}
 use Rattle.sz_total.proofs.EntryLemmas.{of_table_longer}

@@ -1,27 +1,26 @@
 -- What calls on parts do to all index lists of a table.
-use Rattle.std.proofs.Common.{◌≡◌, ◌∙◌, ℕ, zero, suc, ◌+◌, ◌≤◌, ◌<◌, Bool, true, false, cond, ◌||◌, true≢false, List, [], ◌∷◌}
+use Rattle.std.proofs.Common.{◌≡◌, ◌∙◌, ℕ, zero, suc, ◌+◌, ◌<◌, Bool, true, false, ◌||◌, true≢false, List, [], ◌∷◌}
 use Rattle.std.proofs.Common.{◌++◌, length, refl, sym, ap, subst, arith, All, nat_eq}
-use Rattle.std.specs.Prelude.{set, slice_get, slice_index_or}
+use Rattle.std.specs.Prelude.{set}
 use Rattle.std.specs.List.{AllByRecursion}
-use Rattle.std.specs.Map.{keys_of, values_of, lookup}
-use Rattle.std.specs.BTreeSet.{insert_key}
+use Rattle.std.specs.Map.{keys_of, values_of}
 use Rattle.std.proofs.lemmas.Bool.{eq-eqb, eqb-true}
 use Rattle.std.proofs.lemmas.List.{length-set, map-append, get_or-set_same, get_or-set_other}
 use Rattle.std.proofs.lemmas.List.Elements.{All-nil, All-cons, All-head, All-tail}
 use Rattle.std.proofs.lemmas.Option.{slice_get_within, get_or_from_slice_get}
 use Rattle.sz_types.specs.Tables.{Declaration}
 use Rattle.sz_value.specs.Data.{Datum}
-use Rattle.sz_tabs.specs.Data.{EmitDatum, Weighted}
-use Rattle.sz_tabs.specs.Rows.{compare_indexes, brought_by, rows_of}
+use Rattle.sz_tabs.specs.Data.{EmitDatum}
+use Rattle.sz_tabs.specs.Rows.{compare_indexes}
 use Rattle.sz_tabs.specs.Sorting.{distinct}
 use Rattle.sz_tabs.proofs.ForCallers.{distinct_of_both}
-use Rattle.sz_total.specs.Entries.{Entries, same_indexes, rows_found, rows_in_order, IsOfTable, AreOfTable, TakesEmit}
-use Rattle.sz_total.specs.Joining.{LooksTheSame, TakesAll}
+use Rattle.sz_total.specs.Entries.{same_indexes, rows_found, rows_in_order, IsOfTable, AreOfTable, TakesEmit}
+use Rattle.sz_total.specs.Joining.{TakesAll}
 use Rattle.sz_total.specs.Parts.{PartState, empty_part, part_at, part_of, entries_of, IsPlaced, ArePlaced, ArePartsOf, AreSettled}
 use Rattle.sz_total.specs.Parts.{PartTakesEmit, PartsLookTheSame}
 use Rattle.sz_total.specs.declared.aggregate.Aggregate.{Aggregate}
 use Rattle.sz_total.proofs.TablesLemmas.{indexes_total, indexes_tie}
-use Rattle.sz_total.proofs.ListLemmas.{same_laws, same_is, is_among, among_distinct, among_entered}
+use Rattle.sz_total.proofs.ListLemmas.{same_is, is_among, among_distinct, among_entered}
 use Rattle.sz_total.proofs.EntryLemmas.{of_table_longer}
 use Rattle.sz_total.proofs.PartLemmas.{rows_in_part, among_in_part, distinct_alike, alike_distinct, among_both, shown_alike, number_among}
 use Rattle.sz_total.proofs.PartLemmas.{placed_by, all_of_table}

@@ -1,10 +1,10 @@
 -- The loops over the parts of a table: what one turn does, and what all of them did.
-use Rattle.std.proofs.Common.{◌≡◌, ◌∙◌, ℕ, zero, suc, ◌+◌, ◌≤◌, ◌<◌, ◌⊎◌, inl, inr, Bool, true, false, true≢false, Some, List, [], ◌∷◌, length}
-use Rattle.std.proofs.Common.{◌++◌, get_or, refl, sym, ap, subst, arith, nat_eq}
-use Rattle.std.specs.Prelude.{set, slice_get}
+use Rattle.std.proofs.Common.{◌≡◌, ◌∙◌, ℕ, ◌+◌, ◌≤◌, ◌<◌, ◌⊎◌, inl, inr, Bool, true, false, true≢false, Some, List, length}
+use Rattle.std.proofs.Common.{get_or, refl, sym, ap, subst, arith, nat_eq}
+use Rattle.std.specs.Prelude.{slice_get}
 use Rattle.std.proofs.lemmas.Bool.{eq-eqb, eqb-true}
 use Rattle.std.proofs.lemmas.Option.{slice_get-get_or, slice_get_within, get_or_from_slice_get}
-use Rattle.sz_total.specs.Joining.{AreOf, AreAlike, LooksTheSame}
+use Rattle.sz_total.specs.Joining.{AreOf, LooksTheSame}
 use Rattle.sz_total.specs.Parts.{PartState, empty_part, part_at, beside, HasPartRoom, HasPartRoomAt, HavePartRoom, ChangesPartRoomAt, ArePartsAlike}
 use Rattle.sz_total.specs.Parts.{IsPartAlikeAt, PartsLookTheSame, Receives, ReceivesAt, MayJoin, MayJoinAll, MayJoinAt, Settles, SettlesAt, SettleAll}
 use Rattle.sz_total.proofs.JoiningLemmas.{looks_refl, looks_trans}

@@ -1,5 +1,5 @@
 -- The parts in which a table keeps its index lists: each lies in the part with its number.
-use Rattle.std.specs.Prelude.{◌≡◌, ◌≤◌, ◌<◌, ◌+◌, ◌%◌, ◌^◌, ℕ, nat_eq, Bool, Some, List, [], ◌∷◌, ◌++◌, length, filter, set, slice_get, slice_index_or}
+use Rattle.std.specs.Prelude.{◌≡◌, ◌≤◌, ◌<◌, ◌+◌, ◌%◌, ◌^◌, ℕ, Some, List, [], ◌∷◌, ◌++◌, length, set, slice_get, slice_index_or}
 use Rattle.std.specs.List.{AllByRecursion}
 use Rattle.std.specs.Map.{keys_of}
 use Rattle.sz_types.specs.Tables.{Declaration}
@@ -8,7 +8,6 @@ use Rattle.sz_flat.specs.Digest.{list_digest}
 use Rattle.sz_tabs.specs.Data.{EmitDatum}
 use Rattle.sz_total.specs.Entries.{Entries, AreOfTable, TakesEmit}
 use Rattle.sz_total.specs.Joining.{AreAlike, LooksTheSame, HaveRoomFor, AreReady, JoinsEntries}
-use Rattle.sz_total.specs.declared.aggregate.Aggregate.{Aggregate}
 
 -- a part: its aggregators, for how many there is room, and those that came to be joined with them
 pub record PartState : Type 0 where

@@ -1,5 +1,5 @@
 -- Each turn counts one index list.
-use Rattle.std.proofs.Common.{◌≡◌, ◌∙◌, ◌+◌, ◌<◌, ◌^◌, refl, sym, ap, subst, arith, length}
+use Rattle.std.proofs.Common.{◌+◌, refl, sym, ap, subst, arith}
 use Rattle.std.specs.Prelude.{slice_set, slice_index_or}
 use Rattle.std.specs.Map.Iter.{deref_pair}
 use Rattle.std.proofs.lemmas.Map.Iter.{rest_more}

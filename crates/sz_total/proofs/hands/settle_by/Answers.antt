@@ -1,7 +1,6 @@
 -- Parts may cross threads, and each call settles one.
 use denote.Param.Send.{sendable}
 use Rattle.std.proofs.Crossing.{crosses}
-use Rattle.std.proofs.Common.{◌∙◌, sym, ap, length, arith}
 use Rattle.sz_total.proofs.SendLemmas.{part_send}
 use Rattle.sz_total.proofs.RoomLemmas.{accepts_one}
 use Rattle.sz_total.proofs.hands.settle_by.Goals as goal

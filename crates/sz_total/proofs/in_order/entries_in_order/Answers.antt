@@ -1,5 +1,5 @@
 -- What was lent are all entries, and their index lists are distinct.
-use Rattle.std.proofs.Common.{◌∙◌, ◌≤◌, get_or, length, sym, ap, subst, rules, arith, IsPermutation}
+use Rattle.std.proofs.Common.{◌∙◌, ◌≤◌, get_or, length, ap, subst, rules, arith, IsPermutation}
 use Rattle.std.proofs.lemmas.Fn.{always_returns_same}
 use Rattle.sz_total.specs.Parts.{entries_of}
 use Rattle.sz_total.proofs.KeyLemmas.{entries_less, entries_ordered, entries_sorted}

@@ -1,8 +1,8 @@
 -- The only part takes each emit, and else that with its number.
-use Rattle.std.proofs.Common.{◌≡◌, ◌∙◌, length, sym, ap, subst, arith, rules}
+use Rattle.std.proofs.Common.{◌≡◌, length, subst, arith, rules}
 use Rattle.std.proofs.lemmas.Result.{on_ok_weaker}
 use Rattle.sz_types.specs.SeenTables.{seen_table}
-use Rattle.sz_total.specs.Parts.{TakesEmitAt, part_of}
+use Rattle.sz_total.specs.Parts.{TakesEmitAt}
 use Rattle.sz_total.proofs.OneTableLemmas.{part_of_table, only_part}
 use Rattle.sz_total.proofs.parts.add_to_part.Goals as goal
 

@@ -1,5 +1,5 @@
 -- Each turn makes room in one table.
-use Rattle.std.proofs.Common.{◌∙◌, refl, ap, length, arith}
+use Rattle.std.proofs.Common.{◌∙◌, refl, arith}
 use Rattle.sz_total.proofs.MergingLemmas.{made_none, next_matched, changes_more, made_more, all_made, length_changed}
 use Rattle.sz_total.proofs.total.reserve_all.Goals as goal
 

@@ -1,5 +1,4 @@
 -- The only part is dealt out, where there is no other.
-use Rattle.std.proofs.Common.{◌≡◌, ◌⊎◌, ℕ, inl, inr}
 use Rattle.sz_types.specs.SeenTables.{seen_table}
 use Rattle.sz_total.proofs.OneTableLemmas.{kept_dealt, changes_dealt}
 use Rattle.sz_total.proofs.one_table.OneTable.deal.Goals as goal

@@ -1,7 +1,6 @@
 -- The parts of the other table are received, and joined.
-use Rattle.std.proofs.Common.{ap, sym, subst}
 use Rattle.sz_types.specs.SeenTables.{seen_table}
-use Rattle.sz_total.proofs.MergingLemmas.{are_sides, may_join_all, as_many_new, placed_joined, parts_of_joined, settled_joined, table_joined, kept_joined}
+use Rattle.sz_total.proofs.MergingLemmas.{are_sides, may_join_all, table_joined, kept_joined}
 use Rattle.sz_total.proofs.one_table.OneTable.merge.Goals as goal
 
 pub receive_all-requires : goal.receive_all-requires
