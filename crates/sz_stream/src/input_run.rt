@@ -193,7 +193,7 @@ fn run_next<'a, R: Threads + Sync, G: Gate + Sync>(
     ensures read { IsErrOf result Stop.ReadFailed → ⊥ }
 {
     let (part, passed) = run_at_hand(rt, alloc, job, workers, intake, gate)?;
-    merge(total, part)?;
+    merge(rt, workers, total, part)?;
     intake.move_on(passed);
     Ok(())
 }
@@ -232,13 +232,19 @@ pub fn run_at_hand<'a, R: Threads + Sync, G: Gate + Sync>(
     }
 }
 
-/// Merges the tables of one round more.
-fn merge<'a>(total: &mut Total<'a>, part: Total<'a>) -> Result<(), NoMemory>
+/// Merges the tables of one round more, in at most so many threads.
+fn merge<'a, R: Threads + Sync>(
+    rt: &R,
+    threads: u32,
+    total: &mut Total<'a>,
+    part: Total<'a>,
+) -> Result<(), NoMemory>
+    requires threads { 1 ≤ threads }
     requires same { part.tables ≡ total.old.tables }
     requires room { total.old.count + part.count ≤ 2 ^ 63 }
     ensures ok { OnOk result (Joins declarations emit_count shown total.old part.entry total.new) }
 {
-    match total.absorb(part) {
+    match total.absorb_by(rt, threads as usize, part) {
         Ok(()) => Ok(()),
         Err(_) => Err(NoMemory),
     }

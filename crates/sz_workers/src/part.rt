@@ -1,6 +1,7 @@
 //! Parts of a round, which stand for shards.
-ghost use Rattle.std.specs.Prelude.{◌≡◌, [], false, IfOk};
+ghost use Rattle.std.specs.Prelude.{◌≡◌, ◌≤◌, ◌++◌, ℕ, List, [], false, IfOk, OnOk};
 ghost use Rattle.sz_mean.specs.Marked.{all_tables};
+ghost use Rattle.sz_book_rules.specs.History.{AreApart};
 ghost use Rattle.sz_book_rules.specs.Plan.{IsPlan};
 ghost use Rattle.sz_attempt.specs.declared.job.Job.{Job};
 ghost use Rattle.sz_attempt.specs.Shards.{IsJob};
@@ -11,6 +12,7 @@ ghost use Rattle.sz_workers.specs.Parts.{plan_for, Dies, Bad, HoldsShards};
 use crate::first_faults::{FirstFaults, first_of_both, no_faults};
 use std::alloc::Global;
 use std::marker::{Brand, PhantomData};
+use std::thread::Threads;
 use sz_book::{Lane, Load, NoMemory, Plan};
 use sz_total::Total;
 use sz_types::TableDecls;
@@ -83,6 +85,30 @@ impl<'a, N: RoundName> Load for RoundPart<'a, N> {
 }
 
 impl<'a, N: RoundName> RoundPart<'a, N> {
+    /// Takes in the part of other shards as `absorb` does, in at most so many threads. Where there was no memory, the other part is dropped.
+    pub(crate) fn absorb_by<R: Threads + Sync>(
+        &mut self,
+        rt: &R,
+        threads: u32,
+        part: RoundPart<'a, N>,
+    ) -> Result<(), NoMemory>
+        requires threads { 1 ≤ threads }
+        requires apart { (ss : List ℕ) × (ts : List ℕ) × HoldsShards N.job N.round self.old.total self.old.first ss
+            × HoldsShards N.job N.round part.total part.first ts × AreApart ss ts }
+        ensures ok { (ss ts : List ℕ) → HoldsShards N.job N.round self.old.total self.old.first ss
+            → HoldsShards N.job N.round part.entry.total part.entry.first ts → AreApart ss ts
+            → OnOk result (HoldsShards N.job N.round self.new.total self.new.first (ss ++ ts)) }
+    {
+        let both = first_of_both(&self.first, &part.first)?;
+        match self.total.absorb_by(rt, threads as usize, part.total) {
+            Ok(()) => {
+                self.first = both;
+                Ok(())
+            }
+            Err(_) => Err(NoMemory),
+        }
+    }
+
     /// The tables before any emit, of a round with this plan and a job with these declarations.
     pub fn empty(
         alloc: Global,

@@ -1,5 +1,5 @@
 //! The parts of all workers together.
-ghost use Rattle.std.specs.Prelude.{◌≡◌, ◌++◌, ◌∷◌, [], IfOk, OnOk};
+ghost use Rattle.std.specs.Prelude.{◌≡◌, ◌≤◌, ◌++◌, ◌∷◌, [], IfOk, OnOk};
 ghost use Rattle.sz_mean.specs.Marked.{all_tables};
 ghost use Rattle.sz_book_rules.specs.History.{IsAmong, AreApart, AreDistinct};
 ghost use Rattle.sz_attempt.specs.Shards.{IsJob};
@@ -9,6 +9,7 @@ ghost use Rattle.sz_workers.specs.Parts.{plan_for, HoldsShards};
 
 use crate::part::{RoundName, RoundPart};
 use std::alloc::Global;
+use std::thread::Threads;
 use sz_book::{Lane, Load, NoMemory, Plan, Shards};
 use sz_types::TableDecls;
 
@@ -39,37 +40,41 @@ pub(crate) fn empty_pool<'a, N: RoundName>(
     })
 }
 
-/// Takes in lanes, none of whose shards is there yet, or in another of them.
-pub(crate) fn pour_all<'a, N: RoundName>(
+/// Takes in lanes, none of whose shards is there yet, or in another of them, each in at most so many threads.
+pub(crate) fn pour_all<'a, R: Threads + Sync, N: RoundName>(
+    rt: &R,
+    threads: u32,
     pool: &mut Pool<'a, N>,
     lanes: Vec<Lane<RoundPart<'a, N>>>,
 ) -> Result<(), NoMemory>
+    requires threads { 1 ≤ threads }
     requires holds { HoldsShards N.job N.round pool.old.part.total pool.old.part.first pool.old.shards }
     requires distinct { AreDistinct (pool.old.shards ++ shards_in lanes.items) }
     ensures holds { OnOk result (HoldsShards N.job N.round pool.new.part.total pool.new.part.first pool.new.shards) }
     ensures all { OnOk result (pool.new.shards ≡ pool.old.shards ++ shards_in lanes.entry.items) }
 {
     for lane in lanes {
-        pour(pool, lane)?;
+        pour(rt, threads, pool, lane)?;
     }
     Ok(())
 }
 
 // Takes in a lane, none of whose shards is there yet.
-fn pour<'a, N: RoundName>(
+fn pour<'a, R: Threads + Sync, N: RoundName>(
+    rt: &R,
+    threads: u32,
     pool: &mut Pool<'a, N>,
     lane: Lane<RoundPart<'a, N>>,
 ) -> Result<(), NoMemory>
+    requires threads { 1 ≤ threads }
     requires holds { HoldsShards N.job N.round pool.old.part.total pool.old.part.first pool.old.shards }
     requires apart { AreApart pool.old.shards lane.shards }
     ensures holds { OnOk result (HoldsShards N.job N.round pool.new.part.total pool.new.part.first pool.new.shards) }
     ensures all { OnOk result (pool.new.shards ≡ pool.old.shards ++ lane.entry.shards) }
 {
     let (part, shards) = lane.take();
-    match pool.part.absorb(part) {
-        Ok(()) => pool.shards.append(shards),
-        Err(_) => Err(NoMemory),
-    }
+    pool.part.absorb_by(rt, threads, part)?;
+    pool.shards.append(shards)
 }
 
 /// Takes in the part of one shard, which isn't there yet.

@@ -70,8 +70,8 @@ fn run_named<'a, R: Threads + Sync, G: Gate + Sync, N: RoundName + Send + Sync>(
     let (mut closed, pockets) = run_all::<R, G, N>(rt, alloc, job, round, plan, workers, gate)?;
     let lanes = mem::replace(&mut closed.lanes, Vec::new(alloc));
     let mut pool = empty_pool(alloc, plan, job.compiled.tables())?;
-    pour_all(&mut pool, lanes)?;
-    pour_all(&mut pool, pockets)?;
+    pour_all(rt, workers, &mut pool, lanes)?;
+    pour_all(rt, workers, &mut pool, pockets)?;
     finish(
         alloc,
         job,
