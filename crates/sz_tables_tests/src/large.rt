@@ -1,6 +1,6 @@
-//! Large tables: as many values as a limit lets in and one more, a merge of a million index lists, and a text that is made in pieces. No
-//! answer of want of memory comes but from the allocator, so none comes here.
-ghost use Rattle.std.specs.Prelude.{◌≡◌, ◌∷◌, [], ◌≤◌, ◌<◌, ◌+◌, ◌^◌, true, false, All, IfOk};
+//! Large tables: as many values as a limit lets in and one more, a merge of a million index lists, a text that is made in pieces, and a
+//! merge that is made in parts. No answer of want of memory comes but from the allocator, so none comes here.
+ghost use Rattle.std.specs.Prelude.{◌≡◌, ◌∷◌, [], ◌≤◌, ◌<◌, ◌+◌, ◌^◌, true, false, All, IfOk, OnOk};
 ghost use Rattle.sz_types.specs.Data.{Shape};
 ghost use Rattle.sz_types.specs.SeenTables.{seen_table};
 ghost use Rattle.sz_total.specs.Weights.{HaveTheirWeights};
@@ -118,6 +118,23 @@ fn counted<'a>(
     ensures count { IfOk result (λ total. total.count ≤ 2 ^ 32) }
 {
     let mut total = Total::new(alloc, tables)?;
+    count_more(alloc, &mut total, tables, numbers)?;
+    Ok(total)
+}
+
+// Adds 1 under each of these numbers of the table of sums.
+fn count_more<'a>(
+    alloc: Global,
+    total: &mut Total<'a>,
+    tables: &TableDecls,
+    numbers: Numbers,
+) -> Result<(), NoMemory>
+    requires numbers { All (λ table. (table.element ≡ Shape.int) × (table.indexes ≡ Shape.int ∷ [])) tables.now }
+    requires same { total.old.tables ≡ tables.now }
+    requires room { total.old.count ≤ 2 ^ 40 }
+    ensures same { OnOk result (total.new.tables ≡ tables.now) }
+    ensures count { OnOk result (total.new.count ≤ total.old.count + 2 ^ 32) }
+{
     for at in 0..numbers.count {
         let dealt = Dealt {
             table: 0,
@@ -126,9 +143,9 @@ fn counted<'a>(
             weight: 0,
             side: 0,
         };
-        add_dealt(alloc, &mut total, tables, &dealt)?;
+        add_dealt(alloc, total, tables, &dealt)?;
     }
-    Ok(total)
+    Ok(())
 }
 
 // How many index lists the table of sums has after so many on each of two sides.
@@ -165,6 +182,76 @@ fn have_one_text<R: Threads + Sync>(
     Ok(one.len() > 0 && one.as_slice() == all.as_slice())
 }
 
+// Two sides with thousands of index lists, many of them in common, a small side, and what comes after they are joined: index lists that are
+// there, and others.
+const LARGE: Numbers = Numbers {
+    first: 0,
+    count: 6_000,
+};
+
+const OTHER: Numbers = Numbers {
+    first: 4_000,
+    count: 7_000,
+};
+
+const SMALL: Numbers = Numbers {
+    first: 3_001,
+    count: 10,
+};
+
+const LATER: Numbers = Numbers {
+    first: 17_990,
+    count: 9,
+};
+
+// The text of all of them in one total, which is never merged.
+fn text_alone(alloc: Global) -> Result<Vec<u8>, NoMemory> {
+    let tables = declarations(alloc)?;
+    let mut total = counted(alloc, &tables, LARGE)?;
+    count_more(alloc, &mut total, &tables, OTHER)?;
+    count_more(alloc, &mut total, &tables, SMALL)?;
+    count_more(alloc, &mut total, &tables, LATER)?;
+    text(alloc, &total, &tables)
+}
+
+// The text of the sides, joined by so many threads, with the others after them. The large ones are dealt out to parts where there are two
+// threads, and the small one is dealt out for them.
+fn text_joined<R: Threads + Sync>(
+    rt: &R,
+    alloc: Global,
+    threads: usize,
+) -> Result<Vec<u8>, NoMemory>
+    requires threads { 1 ≤ threads }
+{
+    let tables = declarations(alloc)?;
+    let large = counted(alloc, &tables, LARGE)?;
+    let other = counted(alloc, &tables, OTHER)?;
+    let small = counted(alloc, &tables, SMALL)?;
+    let both = absorbed_by(rt, threads, large, other)?;
+    let mut all = absorbed_by(rt, threads, small, both)?;
+    count_more(alloc, &mut all, &tables, LATER)?;
+    text(alloc, &all, &tables)
+}
+
+// The two totals joined, by so many threads.
+fn absorbed_by<'a, R: Threads + Sync>(
+    rt: &R,
+    threads: usize,
+    mut first: Total<'a>,
+    second: Total<'a>,
+) -> Result<Total<'a>, NoMemory>
+    requires threads { 1 ≤ threads }
+    requires same { second.tables ≡ first.tables }
+    requires room { first.count + second.count ≤ 2 ^ 63 }
+    ensures same { IfOk result (λ both. both.tables ≡ first.entry.tables) }
+    ensures count { IfOk result (λ both. both.count ≡ first.entry.count + second.entry.count) }
+{
+    match first.absorb_by(rt, threads, second) {
+        Ok(()) => Ok(first),
+        Err(_) => Err(NoMemory),
+    }
+}
+
 #[test]
 fn ten_thousand_maxima_of_both_sides_are_kept(rt: HostRuntime) -> Result<(), Fail> {
     let alloc = rt.alloc();
@@ -197,6 +284,21 @@ fn any_number_of_threads_makes_the_same_text(rt: HostRuntime) -> Result<(), Fail
     for fewer in 0..4u32 {
         let same = have_one_text(&rt, rt.alloc(), 4_999, fewer + 1)?;
         assert!(rt; same, "by {} threads", fewer + 1);
+    }
+    Ok(())
+}
+
+#[test]
+fn any_number_of_threads_merges_the_same(rt: HostRuntime) -> Result<(), Fail> {
+    let alone = text_alone(rt.alloc())?;
+    assert!(rt; alone.len() > 100_000);
+    for fewer in 0..4usize {
+        let joined = text_joined(&rt, rt.alloc(), fewer + 1)?;
+        assert!(rt;
+            joined.as_slice() == alone.as_slice(),
+            "by {} threads",
+            fewer + 1
+        );
     }
     Ok(())
 }
