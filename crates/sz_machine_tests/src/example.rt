@@ -1,5 +1,5 @@
 //! That `run` and `run_statics` answer where there is memory.
-ghost use Rattle.std.specs.Prelude.{◌≡◌, [], ◌∷◌, pos, codes, IfOk, Some};
+ghost use Rattle.std.specs.Prelude.{◌≡◌, [], ◌∷◌, pos, IfOk, Some};
 ghost use Rattle.sz_types.specs.SeenTables.{seen_table};
 ghost use Rattle.sz_value.specs.Data.{int};
 ghost use Rattle.sz_instr.specs.Example.{line_of, sum_named};
@@ -62,11 +62,13 @@ fn five(alloc: Global) -> Result<List, NoMemory>
     Ok(made)
 }
 
-fn total(alloc: Global) -> Result<TableDecl, NoMemory>
-    ensures value { IfOk result (λ table. seen_table table ≡ sum_named (codes "total")) }
+/// The declaration of a sum of whole numbers of this name, without indexes.
+pub(crate) fn sum(alloc: Global, name: &str) -> Result<TableDecl, NoMemory>
+    ensures value { IfOk result (λ table. seen_table table ≡ sum_named name.now) }
 {
+    let name = Text::from_str(alloc, name)?;
     Ok(TableDecl {
-        name: Text::from_str(alloc, "total")?,
+        name,
         kind: TableKind::Sum,
         limit: 0,
         indexes: Tys::new(alloc),
@@ -79,7 +81,7 @@ pub(crate) fn one_table(alloc: Global) -> Result<TableDecls, NoMemory>
     ensures value { IfOk result (λ made. made ≡ example.tables) }
 {
     let mut made = TableDecls::new(alloc);
-    made.push(total(alloc)?)?;
+    made.push(sum(alloc, "total")?)?;
     Ok(made)
 }
 

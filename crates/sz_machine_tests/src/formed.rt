@@ -1,14 +1,11 @@
 //! Which code is well formed: an example, each instruction with numbers up to the last and after it, and routines.
 ghost use Rattle.std.specs.Prelude.{◌≡◌, ◌++◌, ◌∷◌, [], IfOk, OnOk};
-ghost use Rattle.sz_types.specs.SeenTables.{seen_table};
 ghost use Rattle.sz_instr.specs.Example.{example_lines, sum_named, example};
 
-use crate::example::line;
+use crate::example::{line, sum};
 use std::alloc::Global;
 use sz_instr::{Code, Instr, Lines, Routine, Routines, Step, Steps, well_formed};
-use sz_types::{
-    BinOp, Builtin, Fields, NoMemory, TableDecl, TableDecls, TableKind, Text, Ty, Tys, UnOp,
-};
+use sz_types::{BinOp, Builtin, Fields, NoMemory, TableDecls, Ty, Tys, UnOp};
 use sz_value::{List, Value};
 
 fn lines_of_example(alloc: Global) -> Result<Lines, NoMemory>
@@ -29,20 +26,6 @@ fn lines_of_example(alloc: Global) -> Result<Lines, NoMemory>
         line(Instr::EndRecord, 0, 1, 1),
     ]?;
     Ok(Lines::from_vec(lines))
-}
-
-fn sum(alloc: Global, name: &str) -> Result<TableDecl, NoMemory>
-    ensures value { IfOk result (λ table. seen_table table ≡ sum_named name.now) }
-{
-    let name = Text::from_str(alloc, name)?;
-    Ok(TableDecl {
-        name,
-        kind: TableKind::Sum,
-        limit: 0,
-        indexes: Tys::new(alloc),
-        element: Ty::Int,
-        weight: None,
-    })
 }
 
 fn one(alloc: Global) -> Result<List, NoMemory>
