@@ -10,5 +10,5 @@ absorb_by-requires-clause-room g c =
 
 pub returns-in-Ok-clause-ok : goal.returns-in-Ok-clause-ok
 returns-in-Ok-clause-ok g c =
-  λ ss ts left right apart. holds_both g.N.RoundName.job g.N.RoundName.round c.args.self.now.total c.args.part.total c.args.self.now.first
-      c.args.part.first ss ts left right apart c.absorb_by.new.self c.first_of_both-both c.in-Ok.ensures.ok c.first_of_both.ensures.value
+    λ ss ts left right apart. holds_both g.N.RoundName.job g.N.RoundName.round c.args.self.now.total c.args.part.total c.args.self.now.first
+    c.args.part.first ss ts left right apart c.absorb_by.new.self c.first_of_both-both c.in-Ok.ensures.ok c.first_of_both.ensures.value
