@@ -2,7 +2,7 @@
 -- Each type is proved from its parts, since a search through all of them stops at its limits.
 use denote.Ref.{NamedLft}
 use denote.RattleType.{RattleType}
-use denote.Param.Send.{IsSend, IsSync, sendable, view_send, view_sync}
+use denote.Param.Send.{IsSend, IsSync, sendable, view_sync}
 use denote.Param.SendFields.{declared_send, declared_sync}
 use Rattle.std.proofs.Crossing.{crosses}
 use Rattle.sz_list.proofs.items.Items.TheSendSync as items

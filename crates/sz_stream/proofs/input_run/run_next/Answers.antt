@@ -13,7 +13,7 @@ run_at_hand-requires-clause-round g c κs within =
 
 -- there is room for its emits
 pub merge-requires-clause-room : goal.merge-requires-clause-room
-merge-requires-clause-room g c =
+merge-requires-clause-room g c κs within =
     let can = c.requires.can_run in
     let r = can.has_round in
     let gives = c.in_ok-part.ensures.value in

@@ -6,7 +6,7 @@ use Rattle.sz_workers.proofs.pool.pour.Goals as goal
 
 -- none of the shards is there yet
 pub absorb_by-requires-clause-apart : goal.absorb_by-requires-clause-apart
-absorb_by-requires-clause-apart g c =
+absorb_by-requires-clause-apart g c κs within =
     let taken = c.take-part.ensures.value in (
       c.args.pool.now.shards,
       c.take-part.result.1,

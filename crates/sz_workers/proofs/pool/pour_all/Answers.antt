@@ -7,7 +7,7 @@ use Rattle.sz_workers.proofs.pool.pour_all.Goals as goal
 
 -- the next lane is apart from those before it
 pub pour-requires-clause-apart : goal.pour-requires-clause-apart
-pour-requires-clause-apart g c =
+pour-requires-clause-apart g c κs within =
     let l = c.loop-lane in
     let rest = shards_in (into_iter_items c.next.new.self) in
     apart_next l.pool.shards c.in-Some.lane.shards rest (c.args.pool.now.shards ++ shards_in c.args.lanes.items) c.requires.distinct

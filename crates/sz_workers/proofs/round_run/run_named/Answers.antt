@@ -14,14 +14,14 @@ empty_pool-requires-clause-decls g c =
 
 -- each shard is in one lane or in one pocket
 pub pour_all-requires-clause-distinct : goal.pour_all-requires-clause-distinct
-pour_all-requires-clause-distinct g c =
+pour_all-requires-clause-distinct g c κs within =
     let same = ap (λ v. v.items) c.replace-lanes.ensures.value in
     subst (λ (ls : List LaneData). AreDistinct (c.in_ok-pool.pool.shards ++ shards_in ls)) (sym same)
     (first_poured c.in_ok-pool.pool.shards c.in_ok-closed.closed.lanes.items c.in_ok-closed.pockets.items c.in_ok-pool.ensures.empty
     c.in_ok-closed.ensures.left.distinct)
 
 pub pour_all-requires-2-clause-distinct : goal.pour_all-requires-2-clause-distinct
-pour_all-requires-2-clause-distinct g c =
+pour_all-requires-2-clause-distinct g c κs within =
     let ss : List ℕ = c.in_ok-pool.pool.shards in
     let same = ap (λ v. v.items) c.replace-lanes.ensures.value in
     then_poured ss c.pour_all.new.pool.shards c.in_ok-closed.closed.lanes.items c.in_ok-closed.pockets.items c.in_ok-pool.ensures.empty

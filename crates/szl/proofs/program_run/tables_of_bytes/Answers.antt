@@ -17,7 +17,7 @@ returns-in_err-tables g c =
 
 -- the tables are those of the program, and there are few emits and records
 pub written-requires : goal.written-requires
-written-requires g c =
+written-requires g c κs within =
     let s = c.args.settings.now in
     let fit = tables_fit c.args.job.now s.save s.shard s.frame c.args.input.now ⊥ c.requires.bounds.shard c.in_ok-tables.tables c.in_ok-tables.ensures.value in
     record {

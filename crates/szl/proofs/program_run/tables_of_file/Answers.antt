@@ -40,7 +40,7 @@ returns-in_err-tables-clause-value g c =
 
 -- the tables are those of the program, and there are few emits and records
 pub written-requires : goal.written-requires
-written-requires g c =
+written-requires g c κs within =
     let files = g.F.Files in
     let s = c.args.settings.now in
     let file = c.in_ok-file.file in
