@@ -39,22 +39,35 @@ returns-in_err-tables-clause-value g c =
     (opens_one files job s old mid new file c.in_ok-file.ensures.fresh c.open_file.ensures.kept c.run_file.ensures.kept c.in_ok-file.ensures.given))
 
 -- the tables are those of the program, and there are few emits and records
-pub written-requires : goal.written-requires
-written-requires g c κs within =
+pub written-requires-clause-declared : goal.written-requires-clause-declared
+written-requires-clause-declared g c κs within =
     let files = g.F.Files in
     let s = c.args.settings.now in
     let file = c.in_ok-file.file in
     let new = c.run_file.new.files in
     let fit = file_fits c.args.job.now s.save s.shard s.frame (files.left c.open_file.new.self file) (files.left new file)
     (Rose (files.faults c.args.files.now) (files.faults new)) c.requires.bounds.shard c.in_ok-tables.tables c.in_ok-tables.ensures.value in
-    record {
-      workers = c.requires.workers.0;
-      declared = fit.declared;
-      can_save = c.requires.can_save;
-      budget = c.requires.job.budget.most;
-      records = fit.within;
-      few = fit.few;
-    }
+    fit.declared
+
+pub written-requires-clause-records : goal.written-requires-clause-records
+written-requires-clause-records g c κs within =
+    let files = g.F.Files in
+    let s = c.args.settings.now in
+    let file = c.in_ok-file.file in
+    let new = c.run_file.new.files in
+    let fit = file_fits c.args.job.now s.save s.shard s.frame (files.left c.open_file.new.self file) (files.left new file)
+    (Rose (files.faults c.args.files.now) (files.faults new)) c.requires.bounds.shard c.in_ok-tables.tables c.in_ok-tables.ensures.value in
+    fit.within
+
+pub written-requires-clause-few : goal.written-requires-clause-few
+written-requires-clause-few g c κs within =
+    let files = g.F.Files in
+    let s = c.args.settings.now in
+    let file = c.in_ok-file.file in
+    let new = c.run_file.new.files in
+    let fit = file_fits c.args.job.now s.save s.shard s.frame (files.left c.open_file.new.self file) (files.left new file)
+    (Rose (files.faults c.args.files.now) (files.faults new)) c.requires.bounds.shard c.in_ok-tables.tables c.in_ok-tables.ensures.value in
+    fit.few
 
 -- there was no memory for what is written
 pub returns-in_err-written-clause-value : goal.returns-in_err-written-clause-value
