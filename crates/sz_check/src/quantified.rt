@@ -16,12 +16,12 @@ ghost use Rattle.sz_check.specs.Quantified.{variable_of, declared_of, front_of, 
 use std::alloc::{AllocError, Global};
 use sz_check_emits::is_seen_inside;
 use sz_check_expr::{alike, judge_exp, test};
-use sz_check_names::{Cause, JudgeError, Kind, Known, Meaning, Site, judge_type, type_kind};
+use sz_check_names::{Cause, JudgeError, Known, Meaning, Site, judge_type};
 use sz_core::{CoreExpr, CoreQuantity, Quantified};
 use sz_list::Items;
 use sz_quant::{Bound, Bounds, BoundsError, Names, bounds};
 use sz_tree::{Expr, Name, Quantifier, Quantity};
-use sz_types::{Text, Ty, copy_ty};
+use sz_types::{Kind, Text, Ty, copy_ty, type_kind};
 
 // A variable of a `when`: its name, how it is quantified, its number and its type.
 #[derive(Drop)]

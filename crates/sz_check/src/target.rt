@@ -11,10 +11,10 @@ ghost use Rattle.sz_check_names.specs.Outcome.{Judges};
 
 use std::alloc::{AllocError, Global};
 use sz_check_expr::{agrees, field_in, judge_exp, whole};
-use sz_check_names::{Cause, JudgeError, Kind, Known, Means, Site, small, type_kind};
+use sz_check_names::{Cause, JudgeError, Known, Means, Site, small};
 use sz_core::{CoreExpr, CoreStep};
 use sz_tree::{Expr, Name, Step};
-use sz_types::{Place, Ty, copy_ty};
+use sz_types::{Kind, Place, Ty, copy_ty, type_kind};
 
 // Where a path has come to: the number of its variable, the steps so far, the type of what is there, and whether it can be
 // assigned to.

@@ -14,10 +14,10 @@ ghost use Rattle.sz_check_names.specs.Outcome.{Judges};
 use crate::agreement::{agree, counted, pairs_agree};
 use crate::asks::Asks;
 use std::alloc::Global;
-use sz_check_names::{Cause, JudgeError, Kind, type_kind};
+use sz_check_names::{Cause, JudgeError};
 use sz_core::{CoreExpr, CorePair, Form};
 use sz_tree::{Expr, Pair};
-use sz_types::{Field, Place, Ty, copy_ty};
+use sz_types::{Field, Kind, Place, Ty, copy_ty, type_kind};
 
 // What a composite without a colon asks of its parts; an empty one is an array.
 #[tactic(auto, using(crate::proofs::CallLemmas::tuple_asks, crate::proofs::CallLemmas::proto_asks))]

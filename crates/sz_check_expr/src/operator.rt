@@ -12,10 +12,10 @@ ghost use Rattle.sz_check_names.specs.Outcome.{Judges};
 use crate::agreement::fits;
 use crate::rows::{alike, binary_row, unary_row};
 use std::alloc::Global;
-use sz_check_names::{Cause, JudgeError, Kind, type_kind};
+use sz_check_names::{Cause, JudgeError};
 use sz_core::{CoreExpr, Form};
 use sz_tree::{BinaryOp, Expr, UnaryOp};
-use sz_types::{BinOp, Place, Ty, UnOp};
+use sz_types::{BinOp, Kind, Place, Ty, UnOp, type_kind};
 
 // The operator of one operand that a sign is.
 fn unary_of(op: UnaryOp) -> UnOp

@@ -14,10 +14,10 @@ ghost use Rattle.sz_check_names.specs.Outcome.{Judges};
 use crate::agreement::fits;
 use crate::rows::{alike, has_elements, has_slices, index_row};
 use std::alloc::Global;
-use sz_check_names::{Cause, JudgeError, Kind, small, type_kind};
+use sz_check_names::{Cause, JudgeError, small};
 use sz_core::{CoreExpr, Form};
 use sz_tree::{Expr, Name};
-use sz_types::{Field, Place, Ty, converts, copy_ty};
+use sz_types::{Field, Kind, Place, Ty, converts, copy_ty, type_kind};
 
 // A conversion at this place of an expression to a type.
 pub fn conversion_node(

@@ -13,9 +13,8 @@ ghost use Rattle.sz_check_rules.specs.JudgingParts.{has_index};
 ghost use Rattle.sz_check_expr.specs.Operating.{is_compared};
 
 use std::alloc::{AllocError, Global};
-use sz_check_names::{Kind, type_kind};
 use sz_core::CoreExpr;
-use sz_types::{BinOp, Builtin, Ty, UnOp, copy_ty, same};
+use sz_types::{BinOp, Builtin, Kind, Ty, UnOp, copy_ty, same, type_kind};
 
 // Whether the types are the same.
 pub fn alike(a: &Ty, b: &Ty) -> bool

@@ -2,7 +2,6 @@
 pub mod Outcome
 pub mod Sites
 pub mod Written
-pub mod Kinds
 pub mod Knowledge
 pub mod Keeping
 pub mod Sorts

@@ -4,7 +4,6 @@
 
 mod error;
 mod field_names;
-mod kind;
 mod known;
 mod meaning;
 mod number;
@@ -15,7 +14,6 @@ mod waiting;
 mod written;
 
 pub use error::JudgeError;
-pub use kind::{Kind, type_kind};
 pub use known::{Aside, Known};
 pub use meaning::{Meaning, Means};
 pub use number::small;

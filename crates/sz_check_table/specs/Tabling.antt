@@ -1,5 +1,5 @@
 -- Parts of the declaration of a table.
-use Rattle.std.specs.Prelude.{◌≡◌, ℕ, List, ◌∷◌, Bool, true, false, Option, Some, Result, Ok, Err}
+use Rattle.std.specs.Prelude.{◌≡◌, ℕ, List, ◌∷◌, Option, Some, Result, Ok, Err}
 use Rattle.std.specs.Option.{option_map}
 use Rattle.sz_types.specs.Data.{Shape}
 use Rattle.sz_types.specs.Seen.{seen}
@@ -14,11 +14,6 @@ use Rattle.sz_check_table.specs.declared.table.Types.{Types as KeptTypes}
 -- a type in front of others
 abbrev pub with_type : Shape → List Shape → List Shape
 with_type t ts = t ∷ ts
-
--- whether the type is that of whole numbers
-abbrev pub is_int : Shape → Bool
-is_int Shape.int = true
-is_int _ = false
 
 -- the types of the indexes, of the element and of the weights
 abbrev pub types_of : KeptTypes → TableTypes

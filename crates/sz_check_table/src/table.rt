@@ -1,21 +1,20 @@
 //! Declarations of tables.
 ghost use Rattle.std.specs.Prelude.{◌≡◌, IfOk, map as each};
 ghost use Rattle.std.specs.Option.{option_map};
-ghost use Rattle.sz_types.specs.Data.{fields_of};
-ghost use Rattle.sz_types.specs.Seen.{seen, seen_field};
+ghost use Rattle.sz_types.specs.Seen.{seen};
 ghost use Rattle.sz_types.specs.SeenTables.{seen_table};
 ghost use Rattle.sz_tree.specs.View.{elem_of, table_of};
-ghost use Rattle.sz_core.specs.WellFormed.{are_whole_numbers, has_sum, is_weight, is_between, is_allowed};
 ghost use Rattle.sz_check_rules.specs.JudgingPrograms.{kind_of, has_limit, limit_of, judge_elems, judge_weight, judge_types, allowed, judge_table_declaration};
 ghost use Rattle.sz_check_rules.specs.Refusals.{no_kind};
-ghost use Rattle.sz_check_table.specs.Tabling.{is_int, types_of, made_of, IsLimit};
+ghost use Rattle.sz_check_table.specs.Tabling.{types_of, made_of, IsLimit};
 ghost use Rattle.sz_check_names.specs.Knowledge.{blocks_of};
 ghost use Rattle.sz_check_names.specs.Outcome.{Judges, Stops};
 
 use std::alloc::{AllocError, Global};
-use sz_check_names::{Cause, JudgeError, Kind, Known, beside, judge_type, type_kind};
+use sz_check_names::{Cause, JudgeError, Known, beside, judge_type};
+use sz_core::is_allowed;
 use sz_tree::{Elem, Name, Table};
-use sz_types::{Field, TableDecl, TableKind, Text, Ty, Tys};
+use sz_types::{TableDecl, TableKind, Text, Ty, Tys};
 
 // No table is of this kind: it is unknown, or left out.
 fn no_kind(alloc: Global, name: &Name) -> JudgeError
@@ -105,67 +104,6 @@ fn judge_weight(alloc: Global, known: &Known, tree: &Option<Elem>) -> Result<Opt
     match tree {
         Some(tree) => Ok(Some(judge_type(alloc, known, &tree.of)?)),
         None => Ok(None),
-    }
-}
-
-// Whether the type is that of whole numbers.
-fn is_whole_number(ty: &Ty) -> bool
-    ensures value { result ≡ is_int (seen ty.now) }
-{
-    matches!(type_kind(ty), Kind::Int)
-}
-
-// Whether each field is a whole number.
-fn are_whole_numbers(fields: &[Field]) -> bool
-    ensures value { result ≡ are_whole_numbers (fields_of (each seen_field fields.now)) }
-{
-    for field in fields {
-        if !is_whole_number(&field.ty) {
-            return false;
-        }
-    }
-    true
-}
-
-// Whether values of the type can be summed.
-fn has_sum(ty: &Ty) -> bool
-    ensures value { result ≡ has_sum (seen ty.now) }
-{
-    match type_kind(ty) {
-        Kind::Int => true,
-        Kind::Tuple(fields) | Kind::Proto(fields) => are_whole_numbers(fields),
-        _ => false,
-    }
-}
-
-// Whether the type can be that of weights, if there is one.
-fn is_weight(weight: &Option<Ty>) -> bool
-    ensures value { result ≡ is_weight (option_map seen weight.now) }
-{
-    match weight {
-        Some(ty) => matches!(type_kind(ty), Kind::Int | Kind::Time),
-        None => false,
-    }
-}
-
-// Whether the limit lies between the two, both counted in.
-fn is_between(least: u32, most: u32, limit: u32) -> bool
-    ensures value { result ≡ is_between least most limit }
-{
-    least <= limit && limit <= most
-}
-
-// Whether a table's kind, limit, element and weight go together.
-fn is_allowed(table: &TableDecl) -> bool
-    ensures value { result ≡ is_allowed (seen_table table.now) }
-{
-    let limit = table.limit;
-    match table.kind {
-        TableKind::Sum => limit == 0 && has_sum(&table.element) && table.weight.is_none(),
-        TableKind::Maximum => is_between(1, 10_000, limit) && is_weight(&table.weight),
-        TableKind::Minimum => is_between(1, 10_000, limit) && is_weight(&table.weight),
-        TableKind::Set => is_between(1, 1_000_000, limit) && table.weight.is_none(),
-        TableKind::Collection => limit == 0 && table.weight.is_none(),
     }
 }
 

@@ -1,11 +1,13 @@
 //! The checked tree of a program: numbers stand for names, and each expression has its place and its type.
 #![tactic(auto)]
 
+mod allowed;
 mod expr;
 mod laws;
 mod program;
 mod stmt;
 
+pub use allowed::is_allowed;
 pub use expr::{CoreExpr, CorePair, Form};
 pub use laws::{
     a_small_program_is_sound, items_are_sound_after_their_front, statics_emit_nothing,

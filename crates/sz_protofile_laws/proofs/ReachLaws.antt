@@ -11,7 +11,7 @@ use Rattle.sz_protofile_rules.specs.declared.field.FieldIn.{FieldIn}
 use Rattle.sz_protofile_rules.specs.declared.field.Sort.{Sort}
 use Rattle.sz_protofile_rules.specs.declared.field.Sort.TheVariants as sorts
 use Rattle.sz_protofile_rules.specs.Fields.{Reaches, itself, further}
-use Rattle.sz_protofile_loops.specs.Places.{place_of}
+use Rattle.sz_names.specs.Names.{place_of}
 use Rattle.sz_protofile_loops.specs.Ranks.{Ranking, ranking, rank, IsRanking}
 
 same_message : (m n : List ℕ) → sorts.Message m ≡ sorts.Message n → m ≡ n

@@ -1,3 +1,2 @@
-mod PlaceLemmas
 mod LinkLemmas
 mod RankLemmas

@@ -7,8 +7,9 @@ use Rattle.std.proofs.lemmas.List.Elements.{Contains-append_left, Contains-push,
 use Rattle.sz_protofile_rules.specs.declared.field.FieldIn.{FieldIn}
 use Rattle.sz_protofile_rules.specs.declared.field.Sort.TheVariants as sorts
 use Rattle.sz_components.specs.Components.{links_of, IsGraph}
-use Rattle.sz_protofile_loops.specs.Places.{place_of, StandsFor, HasLink, IsLinked, IsGrown, HasNewLink}
-use Rattle.sz_protofile_loops.proofs.PlaceLemmas.{at_place, place_stays}
+use Rattle.sz_names.specs.Names.{place_of}
+use Rattle.sz_protofile_loops.specs.Places.{StandsFor, HasLink, IsLinked, IsGrown, HasNewLink}
+use Rattle.sz_names.proofs.NamesLemmas.{at_place, place_stays}
 
 -- a node more
 pub grown_by_one : (names : List (List ℕ)) (graph after : List (List ℕ)) (name : List ℕ) → length graph ≡ length names → after ≡ graph ++ [] ∷ []

@@ -7,9 +7,10 @@ use Rattle.sz_protofile_rules.specs.Fields as fields_of
 use Rattle.sz_protofile_rules.specs.Fields.{Reaches}
 use Rattle.sz_components.specs.Components as graphs
 use Rattle.sz_components.specs.Components.{Leads, AreNumbers}
-use Rattle.sz_protofile_loops.specs.Places.{place_of, HasLink, IsLinked}
+use Rattle.sz_names.specs.Names.{place_of}
+use Rattle.sz_protofile_loops.specs.Places.{HasLink, IsLinked}
 use Rattle.sz_protofile_loops.specs.Ranks.{Ranking, ranking, rank, IsRanking}
-use Rattle.sz_protofile_loops.proofs.PlaceLemmas.{at_place}
+use Rattle.sz_names.proofs.NamesLemmas.{at_place}
 use Rattle.sz_protofile_loops.proofs.LinkLemmas.{place_within}
 
 -- no two names have one place

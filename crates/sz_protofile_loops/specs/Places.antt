@@ -4,12 +4,8 @@ use Rattle.std.specs.Option.{option_map}
 use Rattle.std.specs.Str.{bytes_eq}
 use Rattle.sz_protofile_rules.specs.declared.field.FieldIn.{FieldIn}
 use Rattle.sz_protofile_rules.specs.declared.field.Sort.TheVariants as sorts
+use Rattle.sz_names.specs.Names.{place_of}
 use Rattle.sz_components.specs.Components.{links_of}
-
--- the first place at which the name stands
-abbrev pub place_of : List ℕ → List (List ℕ) → Option ℕ
-place_of name [] = None
-place_of name (other ∷ names) = if bytes_eq name other then Some 0 else option_map (λ place. suc place) (place_of name names)
 
 -- a link stands for a field: it is to the message of its type, from the one in which it stands
 pub record StandsFor (names : List (List ℕ)) (a b : ℕ) (f : FieldIn) : Type 0 where

@@ -4,7 +4,7 @@ use Rattle.std.specs.Option.{option_map_or}
 use Rattle.sz_protofile_rules.specs.declared.field.FieldIn.{FieldIn}
 use Rattle.sz_protofile_rules.specs.declared.field.Sort.TheVariants as sorts
 use Rattle.sz_protofile_rules.specs.Fields.{Reaches}
-use Rattle.sz_protofile_loops.specs.Places.{place_of}
+use Rattle.sz_names.specs.Names.{place_of}
 
 -- names, and a number for each
 pub record Ranking : Type 0 where

@@ -2,17 +2,18 @@
 ghost use Rattle.std.specs.Prelude.{◌≡◌, ◌++◌, ◌∷◌, ◌<◌, [], List, length, map, set, Some, OnOk, IfOk};
 ghost use Rattle.sz_protofile_rules.specs.declared.field.FieldIn.{FieldIn as Part};
 ghost use Rattle.sz_components.specs.Components.{links_of};
-ghost use Rattle.sz_protofile_loops.specs.Places.{place_of, IsLinked, IsGrown, HasNewLink};
+ghost use Rattle.sz_names.specs.Names.{place_of};
+ghost use Rattle.sz_protofile_loops.specs.Places.{IsLinked, IsGrown, HasNewLink};
 
-use crate::nodes::Nodes;
 use std::alloc::Global;
+use sz_names::Names;
 use sz_protofile_rules::{FieldIn, Sort};
 use sz_types::NoMemory;
 
 // The messages' names, and the links of each.
 #[derive(Drop)]
 pub(crate) struct Graph {
-    pub(crate) nodes: Nodes,
+    pub(crate) nodes: Names,
     pub(crate) links: Vec<Vec<usize>>,
 }
 
@@ -32,7 +33,7 @@ impl Graph {
         ensures links { result.links.items ≡ [] }
     {
         Graph {
-            nodes: Nodes::new(alloc),
+            nodes: Names::new(alloc),
             links: Vec::new(alloc),
         }
     }
@@ -48,7 +49,7 @@ impl Graph {
             return Ok(place);
         }
         let place = self.nodes.len();
-        self.nodes.add(alloc, name)?;
+        self.nodes.add(name)?;
         self.links.push(Vec::new(alloc))?;
         Ok(place)
     }

@@ -2,7 +2,6 @@
 #![tactic(auto)]
 
 mod graph;
-mod nodes;
 mod ranks;
 
 pub use ranks::{Ranks, message_ranks};

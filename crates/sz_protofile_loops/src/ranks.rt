@@ -16,7 +16,7 @@ use sz_types::NoMemory;
 /// The message of a field's type has no higher rank than that in which the field stands, and it has the same exactly where it leads back
 /// to that one.
 pub struct Ranks {
-    nodes: Nodes,
+    nodes: Names,
     numbers: Vec<usize>,
 }
 

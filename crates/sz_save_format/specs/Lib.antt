@@ -9,6 +9,5 @@ pub mod Decoding
 pub mod DecodingRows
 -- what the functions inside the crate promise each other
 pub mod Code
-pub mod Kinds
 pub mod Fields
 pub mod Short

@@ -6,12 +6,12 @@ ghost use Rattle.sz_types.specs.SeenTables.{seen_table};
 ghost use Rattle.sz_save_format.specs.Decoding as decoding;
 ghost use Rattle.sz_save_format.specs.Decoding.{Reads, kind_at, weight_at, declaration_at};
 
-use crate::allowed::is_allowed;
 use crate::error::SavedError;
 use crate::names::read_name;
 use crate::numbers::{read_byte, read_length};
 use crate::types::{read_saved_type, read_types};
 use std::alloc::Global;
+use sz_core::is_allowed;
 use sz_types::{TableDecl, TableKind, Ty};
 
 /// The declaration in front.

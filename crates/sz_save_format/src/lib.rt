@@ -1,11 +1,9 @@
 //! Saved tables: what a program's tables hold, as the bytes of a file and back.
 #![tactic(auto)]
 
-mod allowed;
 mod declarations;
 mod entries;
 mod error;
-mod kind;
 mod laws;
 mod names;
 mod numbers;

@@ -12,8 +12,7 @@ ghost use Rattle.sz_save_format.specs.Entries.{count_bytes, sum_bytes};
 ghost use Rattle.sz_save_format.specs.Fields.{field_bytes};
 
 use crate::NoMemory;
-use crate::kind::{Kind, type_kind};
-use sz_types::{Encoding, Field, TableDecl, TableKind, Ty};
+use sz_types::{Encoding, Field, Kind, TableDecl, TableKind, Ty, type_kind};
 
 // Appends a length in 4 bytes: the low ones of its 8.
 #[tactic(auto, using(crate::proofs::WritingLemmas::low_bytes))]

@@ -12,13 +12,12 @@ ghost use Rattle.sz_save_format.specs.DecodingRows as decoding;
 ghost use Rattle.sz_save_format.specs.DecodingRows.{sum_at, long_counted_at, sum_row_at, rank_at, row_at, few_rows_at, many_rows_at, set_at};
 
 use crate::error::SavedError;
-use crate::kind::{Kind, type_kind};
 use crate::numbers::{read_byte, read_count, read_length, read_number, read_wide, room_for};
 use crate::order::rows_in_order;
 use crate::sized::read_sized;
 use std::alloc::Global;
 use sz_tabs::{Row, RowValue, Rows, Sums};
-use sz_types::{TableKind, Ty};
+use sz_types::{Kind, TableKind, Ty, type_kind};
 
 // The rows of a table of sums in front, where no sum is further from 0 than `most`.
 #[tactic(auto, unfolding(crate::specs::DecodingRows::sum_row_at))]

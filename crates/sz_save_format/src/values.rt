@@ -9,10 +9,9 @@ ghost use Rattle.sz_save_format.specs.Decoding.{Reads, tag_at, tagged, counted_a
 ghost use Rattle.sz_save_format.specs.DecodingRows.{truth_at, int_at, time_at, text_at, octets_at, pair_at, key_may_follow, array_at, mapping_at, tuple_at, value_at, parts_at};
 
 use crate::error::SavedError;
-use crate::kind::{Kind, type_kind};
 use crate::numbers::{read_byte, read_length, read_number, read_string};
 use std::alloc::Global;
-use sz_types::{Field, Ty};
+use sz_types::{Field, Kind, Ty, type_kind};
 use sz_value::{List, Octets, Pair, Pairs, Text, Value, order};
 
 // The value of the type in front.

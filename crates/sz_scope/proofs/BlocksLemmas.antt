@@ -4,9 +4,9 @@ use Rattle.std.proofs.lemmas.Bool.{eq-eqb, ne_eqb, cond-true, cond-false}
 use Rattle.sz_scope.specs.declared.entry.Entry.{Entry}
 use Rattle.sz_scope.specs.Blocks.{Block, with_declared}
 use Rattle.sz_scope.specs.Sight.{blocks_where}
-use Rattle.sz_scope.specs.Names.{name_at}
+use Rattle.sz_names.specs.Names.{name_at}
 use Rattle.sz_scope.specs.Chain.{IsNested, IsNamed, declaration_of, blocks_of}
-use Rattle.sz_scope.proofs.NamesLemmas.{at_place, name_at_stays}
+use Rattle.sz_names.proofs.NamesLemmas.{at_place, name_at_stays}
 
 module _ (names : List (List ℕ)) (entries : List Entry) where
   -- as many blocks as are counted

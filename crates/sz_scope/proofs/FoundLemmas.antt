@@ -8,9 +8,9 @@ use Rattle.sz_scope.specs.declared.meaning.Meaning.{Meaning}
 use Rattle.sz_scope.specs.declared.entry.Entry.{Entry}
 use Rattle.sz_scope.specs.Blocks.{Block, found_in, found}
 use Rattle.sz_scope.specs.Sight.{blocks_where}
-use Rattle.sz_scope.specs.Names.{place_of, name_at}
+use Rattle.sz_names.specs.Names.{place_of, name_at}
 use Rattle.sz_scope.specs.Chain.{latest, first_where, oldest, IsNested, IsNamed, declaration_of, block_at, blocks_of}
-use Rattle.sz_scope.proofs.NamesLemmas.{at_place}
+use Rattle.sz_names.proofs.NamesLemmas.{at_place}
 use Rattle.sz_scope.proofs.ChainLemmas.{latest_within, oldest_whole, oldest_less, nested_weaker}
 use Rattle.sz_scope.proofs.BlocksLemmas.{length_blocks, blocks_without, none_deep}
 

@@ -1,4 +1,3 @@
-mod NamesLemmas
 mod ChainLemmas
 mod WayLemmas
 mod BlocksLemmas

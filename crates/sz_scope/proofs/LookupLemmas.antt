@@ -6,9 +6,9 @@ use Rattle.sz_scope.specs.declared.meaning.Meaning.{Meaning}
 use Rattle.sz_scope.specs.declared.entry.Entry.{Entry}
 use Rattle.sz_scope.specs.Blocks.{Block, found, is_declared, with_declared}
 use Rattle.sz_scope.specs.Sight.{blocks_where}
-use Rattle.sz_scope.specs.Names.{place_of, name_at}
+use Rattle.sz_names.specs.Names.{place_of, name_at}
 use Rattle.sz_scope.specs.Chain.{latest, first_where, IsSound, blocks_of}
-use Rattle.sz_scope.proofs.NamesLemmas.{at_place}
+use Rattle.sz_names.proofs.NamesLemmas.{at_place}
 use Rattle.sz_scope.proofs.ChainLemmas.{latest_within, first_none, get_oldest}
 use Rattle.sz_scope.proofs.BlocksLemmas.{block_declared, blocks_whole}
 use Rattle.sz_scope.proofs.SoundLemmas.{sound_declared}

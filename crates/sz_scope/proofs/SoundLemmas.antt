@@ -3,9 +3,9 @@ use Rattle.std.proofs.Common.{◌≡◌, ℕ, zero, suc, ◌+◌, ◌<◌, ◌�
 use Rattle.std.proofs.lemmas.Bool.{cases_lt, cases_eq, eq-eqb, ne_eqb, cond-true, cond-false, lt-ltb, le-ltb}
 use Rattle.std.proofs.lemmas.List.{length-set, length_push}
 use Rattle.sz_scope.specs.declared.entry.Entry.{Entry}
-use Rattle.sz_scope.specs.Names.{place_of, name_at}
+use Rattle.sz_names.specs.Names.{place_of, name_at}
 use Rattle.sz_scope.specs.Chain.{latest, without_deeper, IsLinked, IsNested, IsNamed, IsWithin, IsIndexed, IsSound, HasRoomOf, KeepsSound, blocks_of}
-use Rattle.sz_scope.proofs.NamesLemmas.{at_place, place_stays, name_at_stays}
+use Rattle.sz_names.proofs.NamesLemmas.{at_place, place_stays, name_at_stays}
 use Rattle.sz_scope.proofs.ChainLemmas.{nested_weaker}
 use Rattle.sz_scope.proofs.BlocksLemmas.{blocks_stay, blocks_without, block_opened}
 

@@ -4,7 +4,7 @@ use Rattle.std.specs.Prelude.{◌≡◌, ℕ, zero, suc, ◌<◌, ◌≤◌, Boo
 use Rattle.sz_scope.specs.declared.meaning.Meaning.{Meaning}
 use Rattle.sz_scope.specs.declared.entry.Entry.{Entry}
 use Rattle.sz_scope.specs.Blocks.{Declaration, Block, is_declared}
-use Rattle.sz_scope.specs.Names.{place_of, name_at}
+use Rattle.sz_names.specs.Names.{place_of, name_at}
 
 -- the place of the newest entry of the name, counted from the oldest
 abbrev pub latest : ℕ → List Entry → Option ℕ

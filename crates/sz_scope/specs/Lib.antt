@@ -2,5 +2,4 @@
 pub mod Blocks
 pub mod Sight
 -- what the functions inside the crate promise each other
-pub mod Names
 pub mod Chain

@@ -5,7 +5,6 @@ mod chain;
 mod entry;
 mod error;
 mod meaning;
-mod names;
 mod scopes;
 mod sight;
 

@@ -9,10 +9,10 @@ use crate::chain::{find_seen, is_twice, newest_entry, place_for, push_entry, rem
 use crate::entry::Entry;
 use crate::error::ScopeError;
 use crate::meaning::Meaning;
-use crate::names::Names;
 use crate::sight::Sight;
 use std::alloc::{AllocError, Global};
 use std::marker::Model;
+use sz_names::Names;
 
 /// How many declarations have room at first.
 const FIRST_ROOM: usize = 4;

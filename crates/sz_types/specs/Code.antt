@@ -134,6 +134,10 @@ made_of p = record { name = p.0; kind = p.1.0; limit = p.1.1.0; indexes = p.1.1.
 abbrev parts_code : Coded Parts
 parts_code = coded× coded_letters (coded× kind_code (coded× coded_ℕ (coded× shapes_code (coded× shape_code (coded_option shape_code)))))
 
+-- how a declaration is stored
+abbrev pub declaration_code : Coded Declaration
+declaration_code = code_by Parts parts_code parts_of made_of (λ d. refl)
+
 -- how a list of declarations is stored
 abbrev pub declarations_code : Coded (List Declaration)
-declarations_code = coded_list (code_by Parts parts_code parts_of made_of (λ d. refl))
+declarations_code = coded_list declaration_code

@@ -2,6 +2,7 @@
 pub mod Data
 pub mod Seen
 pub mod Same
+pub mod Kinds
 pub mod Conversions
 pub mod Numerals
 pub mod Rows

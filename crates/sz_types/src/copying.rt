@@ -71,11 +71,11 @@ fn copy_field(alloc: Global, field: &Field) -> Result<Field, NoMemory>
 pub fn copy_tys(alloc: Global, types: &Tys) -> Result<Tys, NoMemory>
     ensures value { IfOk result (λ made. made ≡ types.now) }
 {
-    let mut made = Vec::with_capacity(alloc, types.types.len())?;
-    for ty in &types.types {
+    let mut made = Vec::with_capacity(alloc, types.len())?;
+    for ty in types.as_slice() {
         made.push(copy_ty(alloc, ty)?)?;
     }
-    Ok(Tys { types: made })
+    Ok(Tys::from_vec(made))
 }
 
 /// A copy of the declaration.

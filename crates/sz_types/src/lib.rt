@@ -7,6 +7,7 @@ mod copying;
 mod encoding;
 mod fields;
 mod frame;
+mod kind;
 mod laws;
 mod numerals;
 mod operator;
@@ -22,6 +23,7 @@ pub use converting::converts;
 pub use copying::{copy_fields, copy_table, copy_ty, copy_tys};
 pub use encoding::Encoding;
 pub use frame::Frame;
+pub use kind::{Kind, is_int, type_kind};
 pub use laws::{
     a_type_converts_to_itself, alike_is_an_equivalence, alike_is_equal, conversions_are_the_table,
 };

@@ -1,7 +1,7 @@
 use Rattle.std.proofs.Common.{sym, subst, ap, ◌∙◌, ◌<◌, ◌≤◌, Some, length, arith}
-use Rattle.sz_scope.specs.Names.{place_of}
+use Rattle.sz_names.specs.Names.{place_of}
 use Rattle.sz_scope.specs.Chain.{KeepsSound}
-use Rattle.sz_scope.proofs.NamesLemmas.{place_added}
+use Rattle.sz_names.proofs.NamesLemmas.{place_added}
 use Rattle.sz_scope.proofs.SoundLemmas.{keeps_room, keeps_added}
 use Rattle.sz_scope.proofs.chain.place_for.Goals as goal
 

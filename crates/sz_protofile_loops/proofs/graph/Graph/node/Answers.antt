@@ -1,7 +1,8 @@
 use Rattle.std.proofs.Common.{◌++◌, ◌∷◌, List, [], ℕ, map, Some, sym, ap, subst, ◌∙◌, Vec, Global}
 use Rattle.std.proofs.lemmas.List.{map_push}
-use Rattle.sz_protofile_loops.specs.Places.{place_of, IsGrown}
-use Rattle.sz_protofile_loops.proofs.PlaceLemmas.{place_added}
+use Rattle.sz_names.specs.Names.{place_of}
+use Rattle.sz_protofile_loops.specs.Places.{IsGrown}
+use Rattle.sz_names.proofs.NamesLemmas.{place_added}
 use Rattle.sz_protofile_loops.proofs.LinkLemmas.{grown_by_one}
 use Rattle.sz_protofile_loops.proofs.graph.Graph.node.Goals as goal
 

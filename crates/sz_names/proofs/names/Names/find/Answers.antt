@@ -1,8 +1,8 @@
 use Rattle.std.proofs.Common.{ap, ◌∙◌}
 use Rattle.std.specs.String.{string_bytes}
-use Rattle.sz_scope.specs.Names.{place_of}
-use Rattle.sz_scope.proofs.NamesLemmas.{position_is}
-use Rattle.sz_scope.proofs.names.Names.find.Goals as goal
+use Rattle.sz_names.specs.Names.{place_of}
+use Rattle.sz_names.proofs.NamesLemmas.{position_is}
+use Rattle.sz_names.proofs.names.Names.find.Goals as goal
 
 -- the set answers the place of the first key with the name's bytes
 pub returns : goal.returns

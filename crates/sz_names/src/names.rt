@@ -1,14 +1,16 @@
-//! All names that were ever declared, each once.
+//! The list of names, and its calls.
 ghost use Rattle.std.specs.Prelude.{◌≡◌, ◌++◌, ◌∷◌, [], length, None, OnOk, OnErr};
-ghost use Rattle.sz_scope.specs.Names.{place_of};
+ghost use Rattle.sz_names.specs.Names.{place_of};
 
 use crate::NoMemory;
 use indexmap::IndexSet;
 use std::alloc::Global;
 use std::marker::Model;
 
-// The names, in the order in which they were first declared, with their places by hashing.
-pub(crate) struct Names {
+/// Names, each once, in the order in which they were added. Places are counted from 0. A name is found by hashing.
+///
+/// Contracts see the list of the names' bytes.
+pub struct Names {
     names: IndexSet<String>,
 }
 
@@ -28,7 +30,8 @@ impl Model for Names {
 }
 
 impl Names {
-    pub(crate) fn new(alloc: Global) -> Names
+    /// No names, which takes no memory. The list keeps the allocator for its calls.
+    pub fn new(alloc: Global) -> Names
         ensures value { result ≡ [] }
     {
         Names {
@@ -36,21 +39,22 @@ impl Names {
         }
     }
 
-    pub(crate) fn len(&self) -> usize
+    /// How many names there are.
+    pub fn len(&self) -> usize
         ensures value { result ≡ length self.now }
     {
         self.names.len()
     }
 
-    // The place of the name.
-    pub(crate) fn find(&self, name: &str) -> Option<usize>
+    /// The place of the name, or `None` where it isn't there.
+    pub fn find(&self, name: &str) -> Option<usize>
         ensures value { result ≡ place_of name.now self.now }
     {
         self.names.get_index_of(name)
     }
 
-    // One more name.
-    pub(crate) fn add(&mut self, name: &str) -> Result<(), NoMemory>
+    /// Appends a name that isn't there. Where there is no memory all stays as it is.
+    pub fn add(&mut self, name: &str) -> Result<(), NoMemory>
         requires absent { place_of name.now self.old ≡ None }
         ensures ok { OnOk result (self.new ≡ self.old ++ name.now ∷ []) }
         ensures err { OnErr result (self.new ≡ self.old) }

@@ -1,8 +1,8 @@
 use Rattle.std.proofs.Common.{ap, ◌∙◌, ◌++◌, ◌∷◌, []}
 use Rattle.std.specs.String.{string_bytes}
-use Rattle.sz_scope.specs.Names.{place_of}
-use Rattle.sz_scope.proofs.names.Names.add.Goals as goal
-use Rattle.sz_scope.proofs.NamesLemmas.{keys_added}
+use Rattle.sz_names.specs.Names.{place_of}
+use Rattle.sz_names.proofs.names.Names.add.Goals as goal
+use Rattle.sz_names.proofs.NamesLemmas.{keys_added}
 
 -- the set has no key with the name's bytes, so that the new key goes last
 pub returns-clause-ok : goal.returns-clause-ok

@@ -1,13 +1,13 @@
 //! One level of a type.
 ghost use Rattle.std.specs.Prelude.{◌≡◌};
 ghost use Rattle.sz_types.specs.Seen.{seen};
-ghost use Rattle.sz_save_format.specs.Kinds.{shape_of_kind};
+ghost use Rattle.sz_types.specs.Kinds.{shape_of_kind, is_int};
 
-use sz_types::{Field, Ty};
+use crate::ty::{Field, Ty};
 
-// What a type is, with the types inside it.
+/// What a type is, with the types inside it.
 #[derive(Clone, Copy)]
-pub(crate) enum Kind<'t> {
+pub enum Kind<'t> {
     Bool,
     Int,
     Time,
@@ -19,8 +19,8 @@ pub(crate) enum Kind<'t> {
     Proto(&'t [Field]),
 }
 
-// What this type is.
-pub(crate) fn type_kind(ty: &Ty) -> Kind<'_>
+/// What this type is.
+pub fn type_kind(ty: &Ty) -> Kind<'_>
     ensures value { seen ty.now ≡ shape_of_kind result }
 {
     match ty {
@@ -34,4 +34,11 @@ pub(crate) fn type_kind(ty: &Ty) -> Kind<'_>
         Ty::Tuple(fields) => Kind::Tuple(fields.as_slice()),
         Ty::Proto(fields) => Kind::Proto(fields.as_slice()),
     }
+}
+
+/// Whether the type is that of whole numbers.
+pub fn is_int(ty: &Ty) -> bool
+    ensures value { result ≡ is_int (seen ty.now) }
+{
+    matches!(type_kind(ty), Kind::Int)
 }

@@ -5,13 +5,11 @@ ghost use Rattle.sz_types.specs.Data.{fields_of};
 ghost use Rattle.sz_types.specs.Seen.{seen, seen_field};
 ghost use Rattle.sz_types.specs.SeenTables.{seen_table};
 ghost use Rattle.sz_core.specs.WellFormed as rules;
-ghost use Rattle.sz_save_format.specs.Kinds.{is_int};
 
-use crate::kind::{Kind, type_kind};
-use sz_types::{Field, TableDecl, TableKind, Ty};
+use sz_types::{Field, Kind, TableDecl, TableKind, Ty, is_int, type_kind};
 
-// Whether a table's kind, limit, element and weight go together.
-pub(crate) fn is_allowed(table: &TableDecl) -> bool
+/// Whether a table's kind, limit, element and weight go together.
+pub fn is_allowed(table: &TableDecl) -> bool
     ensures value { result ≡ rules.is_allowed (seen_table table.now) }
 {
     let limit = table.limit;
@@ -40,17 +38,11 @@ fn are_whole_numbers(fields: &[Field]) -> bool
     ensures value { result ≡ rules.are_whole_numbers (fields_of (each seen_field fields.now)) }
 {
     for field in fields {
-        if !is_whole_number(&field.ty) {
+        if !is_int(&field.ty) {
             return false;
         }
     }
     true
-}
-
-fn is_whole_number(ty: &Ty) -> bool
-    ensures value { result ≡ is_int (seen ty.now) }
-{
-    matches!(type_kind(ty), Kind::Int)
 }
 
 // Whether the type can be that of weights, if there is one.

@@ -1,12 +1,12 @@
 -- Laws of the place of a name in a list of names.
-use Rattle.std.proofs.Common.{◌≡◌, ℕ, suc, ◌+◌, ◌<◌, ◌≤◌, ◌⊎◌, inl, inr, Bool, true, false, cond, not, ◌||◌, nat_lt, List, [], ◌∷◌, ◌++◌, length, map, slice_get, Option, None, Some, option_map, position, bytes_eq, refl, sym, ap, subst, ◌∙◌, if◌then◌else◌, arith}
+use Rattle.std.proofs.Common.{◌≡◌, ℕ, zero, suc, ◌+◌, ◌<◌, ◌≤◌, ◌⊎◌, inl, inr, Bool, true, false, cond, not, ◌||◌, nat_lt, List, [], ◌∷◌, ◌++◌, length, map, slice_get, Option, None, Some, option_map, position, bytes_eq, refl, sym, ap, subst, ◌∙◌, if◌then◌else◌, arith}
 use Rattle.std.specs.List.{position_or_len, list_any}
 use Rattle.std.proofs.lemmas.Bool.{cases_lt, lt-ltb, le-ltb, cond-true, cond-false}
 use Rattle.std.proofs.lemmas.Option.{none-some, same_Some}
 use Rattle.std.proofs.lemmas.Slice.Eq.{bytes_eq-Decides}
 use Rattle.std.proofs.lemmas.List.{map-append}
 use Rattle.indexmap.specs.IndexSet.{insert_key}
-use Rattle.sz_protofile_loops.specs.Places.{place_of}
+use Rattle.sz_names.specs.Names.{place_of, name_at}
 
 -- a comparison of two successors
 less_suc : (m n : ℕ) → nat_lt (suc m) (suc n) ≡ nat_lt m n
@@ -101,3 +101,9 @@ place_added name (other ∷ names) p = by (bytes_eq name other) (place_of name n
     by true r rest p = absurd (none-some 0 (sym p))
     by false None rest p = ap (option_map (λ j. suc j)) (rest refl)
     by false (Some i) rest p = absurd (none-some (suc i) (sym p))
+
+-- a place within the names has the same name when another is added
+pub name_at_stays : (other : List ℕ) (names : List (List ℕ)) (place : ℕ) → place < length names → name_at (names ++ other ∷ []) place ≡ name_at names place
+name_at_stays other [] place p = absurd (omega (arith, p))
+name_at_stays other (first ∷ names) zero p = refl
+name_at_stays other (first ∷ names) (suc place) p = name_at_stays other names place (omega (arith, p))

@@ -1,0 +1,2 @@
+-- laws of places, for the crates above as well
+pub mod NamesLemmas
