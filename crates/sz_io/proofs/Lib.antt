@@ -6,3 +6,4 @@ pub mod NamedLemmas
 pub mod PlacedLemmas
 pub mod PutLemmas
 pub mod PlanLemmas
+mod LineLemmas

@@ -1,5 +1,5 @@
 -- What the calls that read and write a whole text promise.
-use Rattle.std.specs.Prelude.{◌≡◌, ℕ, ◌⊎◌, Bool, true, false, IsTrue, List, [], ◌∷◌, ◌++◌, Result, Err, IfSome, IsSome, ◌≤◌, length, take}
+use Rattle.std.specs.Prelude.{◌≡◌, ℕ, ◌⊎◌, Bool, true, false, IsTrue, List, [], ◌∷◌, ◌++◌, Option, Result, Err, IfSome, IsSome, ◌<◌, ◌≤◌, length, take}
 use Rattle.std.specs.Io.KnownBytes.{Appends, IsAtEnd}
 use Rattle.sz_io.specs.declared.error.ReadError.{ReadError}
 use Rattle.sz_io.specs.declared.error.ReadError.TheVariants.{NoMemory}
@@ -38,6 +38,12 @@ pub record OpensOne {F : Type 0} (files : Ghosts F) (old new : F) : Type 0 where
 abbrev pub bytes_taken : WriteError → ℕ
 bytes_taken (Write.Failed n) = n
 bytes_taken (Write.NoMemory n) = n
+
+-- a front of the bytes was written, but not all of them
+pub record AppendsPart (old new : Option (List ℕ)) (bytes : List ℕ) : Type 0 where
+  pub count : ℕ
+  pub less : count < length bytes
+  pub appends : Appends old new (take count bytes)
 
 -- a sink gained the line, or a prefix of it where one of the sink's two counts rose
 pub record GainsLine {S : Type 0} (the_sink : sink.Ghosts S) (old new : S) (line : List ℕ) : Type 0 where

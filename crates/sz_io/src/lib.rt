@@ -29,4 +29,4 @@ pub use sink::Sink;
 pub use sure_files::SureFiles;
 pub use sure_sink::SureSink;
 pub use words::is_file_name;
-pub use writing::write_whole;
+pub use writing::{write_line, write_whole};

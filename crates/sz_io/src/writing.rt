@@ -2,7 +2,7 @@
 ghost use Rattle.std.specs.Prelude.{◌≡◌, ◌<◌, ℕ, [], length, take, Err, IfErr, OnOk};
 ghost use Rattle.std.specs.Io.KnownBytes.{Appends};
 ghost use Rattle.sz_io.specs.Rose.{Rose, DoNotFall};
-ghost use Rattle.sz_io.specs.Calls.{bytes_taken};
+ghost use Rattle.sz_io.specs.Calls.{GainsLine, bytes_taken};
 
 use crate::{OutsideError, Sink, WriteError};
 
@@ -29,4 +29,13 @@ pub fn write_whole<S: Sink>(sink: &mut S, bytes: &[u8]) -> Result<(), WriteError
         }
     }
     Ok(())
+}
+
+/// Writes a line as far as the sink takes it, for a line that tells of a failure: one that can't be written changes nothing more.
+pub fn write_line<S: Sink>(sink: &mut S, line: &[u8])
+    ensures line { GainsLine S.Sink sink.old sink.new line.now }
+    ensures empty { line.now ≡ [] → sink.new ≡ sink.old }
+    ensures kept { DoNotFall S.faults S.refusals sink.old sink.new }
+{
+    let _ = write_whole(sink, line);
 }

@@ -1,13 +1,9 @@
 -- The promise of the top call, from the answer, what was printed of it, and the line.
-use Rattle.std.proofs.Common.{◌≡◌, ◌≢◌, ℕ, ◌<◌, List, [], ◌∷◌, length, take, Option, refl, sym, ap, ◌∙◌, subst, arith, inl, inr, ◌⊎◌}
-use Rattle.std.specs.Prelude.{Result, Ok, Err, OnOk, IfErr}
+use Rattle.std.proofs.Common.{◌≡◌, ◌≢◌, ℕ, ◌<◌, List, [], ◌∷◌, length, Option, refl, sym, ap, ◌∙◌, subst, arith, inl, inr, ◌⊎◌}
+use Rattle.std.specs.Prelude.{Result, Ok, Err}
 use Rattle.std.specs.Io.KnownBytes.{Appends}
 use Rattle.std.proofs.KnownBytes.{Appends-nil}
-use Rattle.std.proofs.Math.Seq.{take-length}
-use Rattle.sz_io.specs.declared.error.WriteError.{WriteError}
-use Rattle.sz_io.specs.declared.error.WriteError.TheVariants as write
-use Rattle.sz_io.specs.Calls.{GainsLine, bytes_taken}
-use Rattle.sz_io.specs.Rose.{Rose}
+use Rattle.sz_io.specs.Calls.{GainsLine}
 use Rattle.sz_io.specs.declared.files.Files as files
 use Rattle.sz_io.specs.declared.sink.Sink as sink
 use Rattle.szl.specs.declared.status.Status.{Status}
@@ -263,17 +259,3 @@ module _ {F O E : Type 0} (the_files : files.Ghosts F) (the_out : sink.Ghosts O)
       (alone_no_memory o made _ out new_out a.decides nothing)
       (subst (GainsLine the_err err new_err) (ap line_of_failure is) gained)
       (opened_no_memory the_files old new _ _ (status_of_answer made) a.opened))
-
--- what a write of a line says of it, whatever it answers
-pub line_told : {E : Type 0} (the_err : sink.Ghosts E) (old new : E) (line : List ℕ) (r : Result (Unit {0}) WriteError)
-    → OnOk r (Appends (the_err.taken old) (the_err.taken new) line)
-    → IfErr r (λ e. Appends (the_err.taken old) (the_err.taken new) (take (bytes_taken e) line))
-    → ((n : ℕ) → r ≡ Err (write.Failed n) → Rose (the_err.faults old) (the_err.faults new))
-    → ((n : ℕ) → r ≡ Err (write.NoMemory n) → Rose (the_err.refusals old) (the_err.refusals new)) → GainsLine the_err old new line
-line_told the_err old new line (Ok _) whole part failed refused = record {
-  count = length line;
-  appends = subst (Appends (the_err.taken old) (the_err.taken new)) (sym (take-length line)) whole;
-  whole = inl (omega arith);
-}
-line_told the_err old new line (Err (write.Failed n)) whole part failed refused = record { count = n; appends = part; whole = inr (inl (failed n refl)) }
-line_told the_err old new line (Err (write.NoMemory n)) whole part failed refused = record { count = n; appends = part; whole = inr (inr (refused n refl)) }

@@ -261,6 +261,6 @@ fn tell_line<E: Sink>(err: &mut E, line: &[u8], failure: Failure) -> Failure
     ensures line { GainsLine E.Sink err.old err.new (line_of_failure failure) }
     ensures kept { DoNotFall E.faults E.refusals err.old err.new }
 {
-    let _ = write_whole(err, line);
+    write_line(err, line);
     failure
 }

@@ -1,6 +1,6 @@
 -- What is known of a file on the way.
-use Rattle.std.specs.Prelude.{◌≡◌, ℕ, ◌+◌, ◌-◌, ◌^◌, ◌<◌, Bool, true, false, List, [], ◌++◌, length, take, Option, Some, None, Result, Ok, Err}
-use Rattle.std.specs.Io.KnownBytes.{Appends, Consumes, IsAtEnd}
+use Rattle.std.specs.Prelude.{◌≡◌, ℕ, ◌+◌, ◌-◌, ◌^◌, ◌<◌, Bool, true, false, List, [], ◌++◌, length, Option, Some, None, Result, Ok, Err}
+use Rattle.std.specs.Io.KnownBytes.{Consumes, IsAtEnd}
 use Rattle.sz_types.specs.declared.frame.Frame.TheVariants.{Delimited}
 use Rattle.sz_records.specs.declared.ending.Ending.{Ending}
 use Rattle.sz_records.specs.declared.ending.Ending.TheVariants as endings
@@ -12,12 +12,6 @@ use Rattle.szl_cut.specs.declared.failure.Failure.TheVariants.{Damaged, Limit}
 use Rattle.szl_cut.specs.declared.progress.Progress.{Progress}
 use Rattle.szl_cut.specs.Cuts.{cuts, IsCutAt}
 use Rattle.szl_cut.specs.Answers.{IsFor}
-
--- a front of the bytes was written, but not all of them
-pub record AppendsPart (old new : Option (List ℕ)) (bytes : List ℕ) : Type 0 where
-  pub count : ℕ
-  pub less : count < length bytes
-  pub appends : Appends old new (take count bytes)
 
 -- nothing was read
 pub record Starts (size : ℕ) (progress : Progress) : Type 0 where

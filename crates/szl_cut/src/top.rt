@@ -3,16 +3,15 @@ ghost use Rattle.std.specs.Prelude.{◌≡◌, ◌≤◌, ◌<◌, ◌⊎◌, If
 ghost use Rattle.std.specs.Io.KnownBytes.{Appends};
 ghost use Rattle.sz_io.specs.Rose.{Rose};
 ghost use Rattle.sz_io.specs.Opened.{KeepsFiles};
-ghost use Rattle.sz_io.specs.Calls.{GainsLine, ReadToEnd};
+ghost use Rattle.sz_io.specs.Calls.{AppendsPart, GainsLine, ReadToEnd};
 ghost use Rattle.szl_cut.specs.Answers.{asked_in, size_in, size_after, IsWhy, line_of};
 ghost use Rattle.szl_cut.specs.Promise.{Writes, Leaves, OpensAsked, ran_out};
-ghost use Rattle.szl_cut.specs.Reading.{AppendsPart};
 
 use crate::cut::cut_places;
 use crate::failure::Failure;
 use crate::lines::{line_of, places_text};
 use std::alloc::Global;
-use sz_io::{Files, Sink, WriteError, is_file_name, write_whole};
+use sz_io::{Files, Sink, WriteError, is_file_name, write_line, write_whole};
 use sz_types::digits_up_to;
 
 /// The most bytes of a part that can be asked for.
@@ -129,6 +128,6 @@ fn tell_line<E: Sink>(err: &mut E, line: &[u8], failure: Failure) -> Failure
     ensures told { result ≡ failure }
     ensures line { GainsLine E.Sink err.old err.new (line_of failure) }
 {
-    let _ = write_whole(err, line);
+    write_line(err, line);
     failure
 }

@@ -1,16 +1,14 @@
 -- What is written of an answer.
 use Rattle.std.proofs.Common.{◌≡◌, ℕ, ◌+◌, ◌<◌, inl, inr, List, ◌++◌, length, take, Option, Some, None, refl, subst, sym, ap, ◌∙◌, arith, length-append}
-use Rattle.std.specs.Prelude.{Result, Ok, Err, OnOk, OnErr, IfOk, IfErr, IfSome, IfNone, replicate}
+use Rattle.std.specs.Prelude.{Result, Ok, Err, OnErr, IfOk, IfErr, IfSome, IfNone, replicate}
 use Rattle.std.specs.Io.KnownBytes.{Appends}
 use Rattle.std.proofs.KnownBytes.{Appends-trans}
 use Rattle.std.proofs.Math.Seq.{take-append-add}
-use Rattle.std.proofs.lemmas.List.{take_all, take-append-le, length-replicate}
+use Rattle.std.proofs.lemmas.List.{take-append-le, length-replicate}
 use Rattle.std.specs.declared.alloc.AllocError.{AllocError}
 use Rattle.sz_io.specs.declared.error.WriteError.{WriteError}
-use Rattle.sz_io.specs.declared.error.WriteError.TheVariants as write
 use Rattle.sz_io.specs.declared.sink.Sink as sink
-use Rattle.sz_io.specs.Calls.{GainsLine, bytes_taken}
-use Rattle.sz_io.specs.Rose.{Rose}
+use Rattle.sz_io.specs.Calls.{AppendsPart, bytes_taken}
 use Rattle.sz_lex.specs.Tokens.{first_place}
 use Rattle.sz_check_rules.specs.declared.cause.Cause.TheVariants.{TooLong}
 use Rattle.szl_explain_judge.specs.declared.refusal.Refusal.{Refusal}
@@ -19,21 +17,7 @@ use Rattle.szl_explain.specs.declared.explanation.Explanation.{Explanation}
 use Rattle.szl_explain.specs.declared.program.Status.{Status}
 use Rattle.szl_explain.specs.declared.program.Status.TheVariants.{Done, Usage, Program, ReadFailed, WriteFailed, NoMemory}
 use Rattle.szl_explain.specs.Answers.{first_line, status_of, Explains, WritesSome, IsAnswer}
-use Rattle.szl_explain.specs.Writing.{AppendsPart, Prints}
-
--- the line was written whole, or a front of it where a count of the sink rose
-pub line_told : {E : Type 0} (the_err : sink.Ghosts E) (old new : E) (line : List ℕ) (result : Result (Unit {0}) WriteError)
-    → OnOk result (Appends (the_err.taken old) (the_err.taken new) line)
-    → IfErr result (λ e. Appends (the_err.taken old) (the_err.taken new) (take (bytes_taken e) line))
-    → ((n : ℕ) → result ≡ Err (write.Failed n) → Rose (the_err.faults old) (the_err.faults new))
-    → ((n : ℕ) → result ≡ Err (write.NoMemory n) → Rose (the_err.refusals old) (the_err.refusals new)) → GainsLine the_err old new line
-line_told the_err old new line (Ok done) whole prefix failed refused = record {
-  count = length line;
-  appends = subst (Appends (the_err.taken old) (the_err.taken new)) (sym (take_all (length line) line (omega arith))) whole;
-  whole = inl (omega arith);
-}
-line_told the_err old new line (Err (write.Failed n)) whole prefix failed refused = record { count = n; appends = prefix; whole = inr (inl (failed n refl)) }
-line_told the_err old new line (Err (write.NoMemory n)) whole prefix failed refused = record { count = n; appends = prefix; whole = inr (inr (refused n refl)) }
+use Rattle.szl_explain.specs.Writing.{Prints}
 
 -- a text that was explained has no other status than these two
 not_usage : (refusal : Option Refusal) → Usage ≡ status_of refusal → ⊥

@@ -1,18 +1,13 @@
 -- What is written of an explanation.
-use Rattle.std.specs.Prelude.{◌≡◌, ℕ, ◌<◌, ◌++◌, List, length, take, Option, Result, Ok, Err}
+use Rattle.std.specs.Prelude.{◌≡◌, ◌++◌, Result, Ok, Err}
 use Rattle.std.specs.Io.KnownBytes.{Appends}
 use Rattle.std.specs.declared.alloc.AllocError.{AllocError}
 use Rattle.sz_io.specs.declared.sink.Sink as sink
+use Rattle.sz_io.specs.Calls.{AppendsPart}
 use Rattle.szl_explain.specs.declared.explanation.Explanation.{Explanation}
 use Rattle.szl_explain.specs.declared.program.Status.{Status}
 use Rattle.szl_explain.specs.declared.program.Status.TheVariants.{WriteFailed, NoMemory}
 use Rattle.szl_explain.specs.Answers.{status_of}
-
--- a front of the bytes was written, but not all of them
-pub record AppendsPart (old new : Option (List ℕ)) (bytes : List ℕ) : Type 0 where
-  pub count : ℕ
-  pub less : count < length bytes
-  pub appends : Appends old new (take count bytes)
 
 -- what the status says of an explanation and of the output; where there is none, no call was made of that
 abbrev pub Prints : {O : Type 0} → sink.Ghosts O → Result Explanation AllocError → Status → O → O → Type 0

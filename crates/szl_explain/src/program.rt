@@ -3,13 +3,15 @@ ghost use Rattle.std.specs.Prelude.{◌≡◌, ◌<◌, ◌++◌, ℕ, [], Err, 
 ghost use Rattle.std.specs.Io.KnownBytes.{Appends};
 ghost use Rattle.sz_io.specs.Rose.{Rose};
 ghost use Rattle.sz_io.specs.Opened.{KeepsFiles};
-ghost use Rattle.sz_io.specs.Calls.{GainsLine, NamesGain, ReadToEnd};
+ghost use Rattle.sz_io.specs.Calls.{AppendsPart, GainsLine, NamesGain, ReadToEnd};
 ghost use Rattle.szl_explain.specs.Answers.{asked_in, code_of, line_of, status_of, ran_out, Answers, IsAnswer, OpensAsked};
-ghost use Rattle.szl_explain.specs.Writing.{AppendsPart, Prints};
+ghost use Rattle.szl_explain.specs.Writing.{Prints};
 
 use crate::explanation::{Explanation, explain, explain_too_long};
 use std::alloc::{AllocError, Global};
-use sz_io::{Files, ReadError, Sink, WriteError, is_file_name, read_whole, write_whole};
+use sz_io::{
+    Files, ReadError, Sink, WriteError, is_file_name, read_whole, write_line, write_whole,
+};
 use szl_explain_judge::{MOST_PROGRAM_BYTES, Refusal};
 
 /// How a call ends, by the statuses that `szl` has for the same.
@@ -82,7 +84,7 @@ pub fn explain_file<F: Files, O: Sink, E: Sink>(
     ensures kept { KeepsFiles F.held F.left F.given F.faults files.old files.new }
 {
     let status = explain_words(alloc, words, files, out);
-    let _ = write_whole(err, status.line());
+    write_line(err, status.line());
     status
 }
 
