@@ -1,2 +1,3 @@
 pub mod OneEnd
+pub mod RunLaws
 pub mod EmitsFit

@@ -1,7 +1,5 @@
 -- The graph of messages: where in a list of names a name stands, and which links its nodes have.
-use Rattle.std.specs.Prelude.{◌≡◌, ◌≢◌, ℕ, suc, List, [], ◌∷◌, ◌++◌, length, Option, None, Some, Contains, if◌then◌else◌}
-use Rattle.std.specs.Option.{option_map}
-use Rattle.std.specs.Str.{bytes_eq}
+use Rattle.std.specs.Prelude.{◌≡◌, ◌≢◌, ℕ, List, [], ◌∷◌, ◌++◌, length, Some, Contains}
 use Rattle.sz_protofile_rules.specs.declared.field.FieldIn.{FieldIn}
 use Rattle.sz_protofile_rules.specs.declared.field.Sort.TheVariants as sorts
 use Rattle.sz_names.specs.Names.{place_of}
