@@ -4,10 +4,10 @@ ghost use Rattle.sz_protofile_loops.specs.Places.{IsLinked};
 ghost use Rattle.sz_protofile_loops.specs.Ranks.{rank, IsRanking};
 
 use crate::graph::Graph;
-use crate::nodes::Nodes;
 use std::alloc::Global;
 use std::marker::Model;
 use sz_components::component_numbers;
+use sz_names::Names;
 use sz_protofile_rules::FieldIn;
 use sz_types::NoMemory;
 

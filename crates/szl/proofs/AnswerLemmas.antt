@@ -38,7 +38,8 @@ use Rattle.szl.specs.Answers.{Answer, success}
 use Rattle.szl.specs.Outcome.{written, outcome_faulted, outcome_of_shards, outcome_of_statics, outcome_of_program}
 use Rattle.szl.specs.Outcome.{outcome_of_checked_run, outcome_of_checked}
 use Rattle.szl.specs.Checking.{checked}
-use Rattle.szl.specs.Judgement.{IsShort, HasStatements, refused, spells}
+use Rattle.sz_refusals.specs.Texts.{IsShort, HasStatements}
+use Rattle.szl.specs.Judgement.{refused, spells}
 use Rattle.szl.specs.Judging.{IsFailureOf, IsFailureOn}
 use Rattle.szl.specs.Failing.{status_of}
 use Rattle.szl.specs.Promise.{IfRead, OpensFiles}

@@ -17,7 +17,7 @@ use Rattle.sz_attempt.specs.Shards.{ShardData}
 use Rattle.sz_attempt.specs.Yields.{Yield, both, yield_of, means}
 use Rattle.sz_attempt.specs.Attempts.{gives, fails, dies_at, passes, shard_means, all_die, is_lost}
 use Rattle.sz_rounds.specs.Outcomes.{lost, then_shards, outcome_from}
-use Rattle.szl.specs.declared.refusal.Refusal.{Refusal}
+use Rattle.sz_refusals.specs.declared.refusal.Refusal.{Refusal}
 use Rattle.szl.specs.Judgement.{Reading, refused, spells}
 use Rattle.szl.specs.Merging.{Merged}
 use Rattle.szl.specs.Outcome.{written, outcome_of_shards, outcome_of_statics, outcome_of_checked_run, outcome_of_settings}

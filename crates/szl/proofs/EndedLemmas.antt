@@ -13,7 +13,7 @@ use Rattle.sz_records.specs.declared.ending.Ending.{Ending}
 use Rattle.sz_records.specs.declared.ending.Ending.TheVariants.{Whole, Damaged, Limit}
 use Rattle.sz_rounds.specs.Outcomes.{ShardsEnd, emitted, faulted, lost, outcome_of}
 use Rattle.sz_words.specs.declared.settings.RunSettings.{RunSettings}
-use Rattle.szl.specs.declared.refusal.Refusal.{Refusal}
+use Rattle.sz_refusals.specs.declared.refusal.Refusal.{Refusal}
 use Rattle.szl.specs.declared.status.Status.TheVariants as status
 use Rattle.szl.specs.Answers.{success}
 use Rattle.szl.specs.Judgement.{Reading, refused, spells}

@@ -15,7 +15,9 @@ use Rattle.sz_parse.specs.Program.{Spells, IsStuck}
 use Rattle.sz_parse.proofs.ForCallers.{one_tree, one_place, not_both, every_list_is_read}
 use Rattle.sz_check_rules.specs.declared.cause.Cause.{Cause}
 use Rattle.sz_check_rules.specs.declared.cause.Cause.TheVariants.{TooLong, NotUtf8, BadChar, BadLiteral, Syntax}
-use Rattle.szl.specs.Judgement.{Reading, refused, spells, refusal_at, IsUnreadable, IsRead, IsShort, HasStuckTokens, HasStatements, HasReading, most_program_bytes}
+use Rattle.sz_refusals.specs.Refusing.{refusal_at}
+use Rattle.sz_refusals.specs.Texts.{IsUnreadable, IsShort, HasStuckTokens, HasStatements, most_program_bytes}
+use Rattle.szl.specs.Judgement.{Reading, refused, spells, IsRead, HasReading}
 
 -- how a text is read: it is too long, it has no tokens, its tokens are stuck, or they spell statements
 data Way : Type 0 where

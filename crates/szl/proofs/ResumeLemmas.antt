@@ -26,10 +26,11 @@ use Rattle.szl.specs.declared.status.Status.{Status}
 use Rattle.szl.specs.declared.status.Status.TheVariants as status
 use Rattle.szl.specs.declared.failure.Failure.{Failure}
 use Rattle.szl.specs.declared.failure.Failure.TheVariants as failure
-use Rattle.szl.specs.declared.refusal.Refusal.{Refusal}
+use Rattle.sz_refusals.specs.declared.refusal.Refusal.{Refusal}
 use Rattle.szl.specs.Answers.{Answer}
 use Rattle.szl.specs.Failing.{status_of}
-use Rattle.szl.specs.Judgement.{Reading, IsRead, IsShort, HasStatements, refused, spells, most_program_bytes}
+use Rattle.sz_refusals.specs.Texts.{IsShort, HasStatements, most_program_bytes}
+use Rattle.szl.specs.Judgement.{Reading, IsRead, refused, spells}
 use Rattle.szl.specs.Judging.{IsFailureOf, IsFailureOn}
 use Rattle.szl.specs.Opening.{Decides, ReadsText, ran_out, past_program, status_of_answer}
 use Rattle.szl.specs.Outcome.{outcome_of_shards, outcome_refused}

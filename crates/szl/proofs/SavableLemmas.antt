@@ -12,11 +12,12 @@ use Rattle.sz_check.specs.RoundTypes.{named_shapes}
 use Rattle.sz_protofile_rules.specs.Types.{TypeShape}
 use Rattle.sz_save.specs.Saving.{HaveSpelling, is_low, are_all_low}
 use Rattle.sz_save_names.specs.Laws.{TypesHaveBytes, TablesHaveSpellings}
-use Rattle.szl.specs.declared.refusal.Refusal.{Refusal}
+use Rattle.sz_refusals.specs.declared.refusal.Refusal.{Refusal}
 use Rattle.szl.specs.declared.failure.Failure.{Failure}
 use Rattle.szl.specs.declared.failure.Failure.TheVariants as failure
-use Rattle.szl.specs.Checking.{judged_so, checked}
-use Rattle.szl.specs.Judgement.{IsShort, HasStatements}
+use Rattle.sz_refusals.specs.Refusing.{judged_so}
+use Rattle.szl.specs.Checking.{checked}
+use Rattle.sz_refusals.specs.Texts.{IsShort, HasStatements}
 use Rattle.szl.specs.Judging.{IsFailureOn}
 use Rattle.szl.specs.Reserved.{unless_reserved, runnable_so, runnable, declared_in, reserved_name}
 use Rattle.szl.specs.Savable.{first_high, unless_high, savable_so, savable}

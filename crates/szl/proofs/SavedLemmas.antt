@@ -25,7 +25,7 @@ use Rattle.sz_protofile_rules.specs.Types.{TypeShape}
 use Rattle.sz_protofile_laws.specs.Readings.{with_types}
 use Rattle.szl.specs.declared.failure.Failure.{Failure}
 use Rattle.szl.specs.Opening.{ReadsText}
-use Rattle.szl.specs.Judgement.{IsShort, HasStatements}
+use Rattle.sz_refusals.specs.Texts.{IsShort, HasStatements}
 use Rattle.szl.specs.Printing.{Prints}
 use Rattle.szl.specs.ProgramRuns.{IsJobOf, vec_items_of}
 use Rattle.szl.specs.ProtoFiles.{IsFileRead, IsOfFile}

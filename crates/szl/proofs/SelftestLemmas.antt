@@ -17,7 +17,8 @@ use Rattle.sz_words.specs.declared.settings.Settings.TheVariants.{Selftest}
 use Rattle.sz_attempt.specs.declared.job.Job.{Job}
 use Rattle.szl.specs.declared.failure.Failure.{Failure}
 use Rattle.szl.specs.declared.failure.Failure.TheVariants as failure
-use Rattle.szl.specs.Judgement.{IsShort, HasStatements, most_program_bytes, refused, spells}
+use Rattle.sz_refusals.specs.Texts.{IsShort, HasStatements, most_program_bytes}
+use Rattle.szl.specs.Judgement.{refused, spells}
 use Rattle.szl.specs.Judging.{IsFailureOf, IsFailureOn}
 use Rattle.szl.specs.Opening.{Decides, AnswersWith, AnswersOver, AnswersTextOver, status_of_answer}
 use Rattle.szl.specs.Outcome.{outcome_faulted, outcome_of_statics, outcome_of_checked_run}

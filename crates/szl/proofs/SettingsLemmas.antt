@@ -31,9 +31,10 @@ use Rattle.szl.specs.Opening.{ReadsText, ran_out, past_program, status_of_answer
 use Rattle.szl.specs.Answers.{Answer}
 use Rattle.szl.specs.Outcome.{written, outcome_of_shards, outcome_of_statics, outcome_of_checked_run, outcome_of_run}
 use Rattle.szl.specs.Outcome.{outcome_of_check, outcome_of_checked, outcome_with, outcome_refused}
-use Rattle.szl.specs.declared.refusal.Refusal.{Refusal}
+use Rattle.sz_refusals.specs.declared.refusal.Refusal.{Refusal}
 use Rattle.szl.specs.Checking.{checked}
-use Rattle.szl.specs.Judgement.{Reading, spells, most_program_bytes}
+use Rattle.sz_refusals.specs.Texts.{most_program_bytes}
+use Rattle.szl.specs.Judgement.{Reading, spells}
 use Rattle.szl.specs.Judgement as readings
 use Rattle.szl.specs.Judging.{IsFailureOf}
 use Rattle.szl.specs.Merging.{Merged, bad}

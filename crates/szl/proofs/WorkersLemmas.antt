@@ -9,7 +9,7 @@ use Rattle.sz_words.specs.declared.settings.Settings.TheVariants.{Run, Selftest}
 use Rattle.sz_world_rules.specs.World.{Done, Faulted}
 use Rattle.sz_world_rules.specs.World as world
 use Rattle.sz_world_rules.specs.Slots.{Slot}
-use Rattle.szl.specs.declared.refusal.Refusal.{Refusal}
+use Rattle.sz_refusals.specs.declared.refusal.Refusal.{Refusal}
 use Rattle.szl.specs.declared.status.Status.{Status}
 use Rattle.szl.specs.Answers.{Answer}
 use Rattle.szl.specs.Judgement.{Reading, refused, spells}

@@ -1,7 +1,7 @@
 -- What a call of the program answers, and the lines that say why there is no output.
-use Rattle.std.specs.Prelude.{◌≡◌, ℕ, List, [], ◌∷◌, ◌++◌, slice_index_or, codes, Option, Some, None}
+use Rattle.std.specs.Prelude.{◌≡◌, ℕ, List, [], ◌∷◌, ◌++◌, slice_index_or, codes}
 use Rattle.std.specs.Fmt.{decimal}
-use Rattle.sz_types.specs.declared.place.Place.{Place}
+use Rattle.sz_refusals.specs.Lines.{place_text}
 use Rattle.sz_world_rules.specs.World.{Fault}
 use Rattle.szl.specs.declared.status.Status.{Status}
 use Rattle.szl.specs.declared.status.Status.TheVariants as status
@@ -58,15 +58,6 @@ disk_failed_line = codes "disk failed\n"
 -- the line of a shard that is lost
 abbrev pub lost_line : ℕ → List ℕ
 lost_line shard = codes "shard " ++ (decimal shard ++ codes " lost\n")
-
--- a place as the lines name it
-abbrev pub place_text : Place → List ℕ
-place_text place = decimal place.line ++ (codes ":" ++ decimal place.column)
-
--- the name of a refusal after the text of its cause, if it has one
-abbrev pub name_text : Option (List ℕ) → List ℕ
-name_text None = []
-name_text (Some name) = codes ": " ++ name
 
 -- the texts of the faults, by their kinds from 1
 abbrev pub fault_texts : List (List ℕ)

@@ -8,7 +8,7 @@ use Rattle.szl.specs.declared.failure.Failure.TheVariants.{BadProtoFile, OtherJo
 use Rattle.sz_machine.specs.Ends.{seen_fault}
 use Rattle.szl.specs.Answers.{fault_line, usage_line, lost_line, damaged_line, limit_line, bad_tables_line, other_tables_line, tables_limit_line}
 use Rattle.szl.specs.Answers.{other_job_line, journal_damaged_line, disk_failed_line, read_failed_line, write_failed_line, no_memory_line}
-use Rattle.szl.specs.Outcome.{refusal_line}
+use Rattle.sz_refusals.specs.Lines.{refusal_line}
 use Rattle.szl.specs.ProtoFiles.{bad_file_line}
 
 -- the number that a status has as the exit status of the process

@@ -9,8 +9,9 @@ use Rattle.sz_parse.specs.declared.error.ParseError.TheVariants as parsing
 use Rattle.sz_check_rules.specs.declared.cause.Cause.TheVariants as causes
 use Rattle.szl.specs.declared.failure.Failure.{Failure}
 use Rattle.szl.specs.declared.failure.Failure.TheVariants.{Usage, Refused, NoMemory}
-use Rattle.szl.specs.declared.refusal.Refusal.{Refusal}
-use Rattle.szl.specs.Judgement.{IsRead, refused, refusal_at}
+use Rattle.sz_refusals.specs.declared.refusal.Refusal.{Refusal}
+use Rattle.sz_refusals.specs.Refusing.{refusal_at}
+use Rattle.szl.specs.Judgement.{IsRead, refused}
 
 -- the failure for words without settings
 abbrev pub failure_of_words : WordsError → Failure

@@ -16,7 +16,8 @@ use Rattle.sz_words.specs.declared.settings.RunSettings.{RunSettings}
 use Rattle.sz_words.specs.declared.settings.Settings.{Settings}
 use Rattle.szl.specs.Settings.{frame_asked}
 use Rattle.szl.specs.Records.{Cut, IsCutInto}
-use Rattle.szl.specs.Judgement.{Reading, IsRead, refusal_at}
+use Rattle.sz_refusals.specs.Refusing.{refusal_at}
+use Rattle.szl.specs.Judgement.{Reading, IsRead}
 use Rattle.szl.specs.Answers.{Answer, Says, usage_line, damaged_line, limit_line, bad_tables_line, other_tables_line, tables_limit_line, success, refusal}
 use Rattle.szl.specs.Answers.{other_job_line, journal_damaged_line}
 use Rattle.szl.specs.Outcome.{outcome_faulted, outcome_lost, outcome_refused}

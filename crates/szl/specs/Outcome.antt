@@ -1,5 +1,5 @@
 -- The outcome of a command line: what the source means for the shards of the records, in input order.
-use Rattle.std.specs.Prelude.{ℕ, zero, suc, ◌*◌, List, [], ◌∷◌, ◌++◌, length, Bool, Option, Some, Result, Ok, Err, codes, if◌then◌else◌}
+use Rattle.std.specs.Prelude.{ℕ, zero, suc, ◌*◌, List, [], length, Bool, Option, Some, Result, Ok, Err, if◌then◌else◌}
 use Rattle.sz_core.specs.Programs.{Core}
 use Rattle.sz_world_rules.specs.World.{Fault, Done, Faulted}
 use Rattle.sz_world_rules.specs.World as world
@@ -18,8 +18,8 @@ use Rattle.sz_words.specs.declared.settings.Settings.TheVariants.{Run, Check, Se
 use Rattle.sz_words.specs.Settings.{settings_in}
 use Rattle.sz_rounds.specs.Outcomes.{ShardsEnd, emitted, faulted, lost, outcome_of}
 use Rattle.szl.specs.declared.status.Status.TheVariants as status
-use Rattle.sz_check_rules.specs.Causes.{text_of}
-use Rattle.szl.specs.declared.refusal.Refusal.{Refusal}
+use Rattle.sz_refusals.specs.declared.refusal.Refusal.{Refusal}
+use Rattle.sz_refusals.specs.Lines.{refusal_line}
 use Rattle.szl.specs.Judgement.{Reading, refused, spells}
 use Rattle.szl.specs.Checking.{checked}
 use Rattle.szl.specs.Savable.{savable}
@@ -31,7 +31,7 @@ use Rattle.sz_protofile_rules.specs.Types.{TypeShape}
 use Rattle.sz_protofile_laws.specs.Readings.{FileReading}
 use Rattle.szl.specs.Shards.{shards_in, job_of}
 pub use Rattle.szl.specs.Answers.{Answer, usage_line, read_failed_line, write_failed_line, no_memory_line, damaged_line, limit_line, lost_line}
-pub use Rattle.szl.specs.Answers.{place_text, name_text, fault_texts, fault_line, success, refusal}
+pub use Rattle.szl.specs.Answers.{fault_texts, fault_line, success, refusal}
 
 -- how many files are opened for a fault in a record: for one in a static the program alone
 abbrev pub opened_for : ℕ → ℕ
@@ -74,10 +74,6 @@ outcome_of_statics program s cut (Done slots) =
 -- the outcome of a program over an input, which is cut into records so. Neither the number of workers nor a doubled shard plays a part
 abbrev pub outcome_of_program : Marked → RunSettings → Cut → Answer
 outcome_of_program program s cut = outcome_of_statics program s cut (statics program s.budget)
-
--- the line that says why a program is refused, and where
-abbrev pub refusal_line : Refusal → List ℕ
-refusal_line r = codes "program: " ++ (text_of r.cause ++ (name_text r.name ++ (codes " at " ++ (place_text r.place ++ 10 ∷ []))))
 
 -- the outcome of a program that is refused
 abbrev pub outcome_refused : Refusal → Answer

@@ -6,7 +6,8 @@ use Rattle.sz_protofile_laws.specs.Readings.{FileReading, bad_file, with_types, 
 use Rattle.sz_words.specs.declared.settings.Settings.{Settings}
 use Rattle.sz_words.specs.declared.settings.Settings.TheVariants.{Run, Check}
 use Rattle.szl.specs.declared.status.Status.TheVariants as status
-use Rattle.szl.specs.Answers.{Answer, refusal, place_text, name_text}
+use Rattle.sz_refusals.specs.Lines.{place_text, name_text}
+use Rattle.szl.specs.Answers.{Answer, refusal}
 
 -- the most bytes of the file
 abbrev pub most_file_bytes : ℕ

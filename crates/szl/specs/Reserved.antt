@@ -6,8 +6,8 @@ use Rattle.sz_tree.specs.Statements.{Stm, Stms, table, no_stms, stm}
 use Rattle.sz_core.specs.Programs.{Core}
 use Rattle.sz_mean.specs.Marked.{Marked, marked}
 use Rattle.sz_check_rules.specs.declared.cause.Cause.TheVariants.{ReservedName}
-use Rattle.szl.specs.declared.refusal.Refusal.{Refusal}
-use Rattle.szl.specs.Judgement.{refusal_at}
+use Rattle.sz_refusals.specs.declared.refusal.Refusal.{Refusal}
+use Rattle.sz_refusals.specs.Refusing.{refusal_at}
 use Rattle.szl.specs.Checking.{checked}
 use Rattle.sz_protofile_rules.specs.Types.{TypeShape}
 

@@ -17,7 +17,7 @@ use Rattle.sz_journal_format.specs.Rounds.{last_progress}
 use Rattle.sz_journal_rules.specs.Journals.{Standing, Empty, OtherJob, DamagedAt, Spelled, entries_of}
 use Rattle.sz_resume.specs.Standing.{Source}
 use Rattle.szl.specs.declared.status.Status.TheVariants as status
-use Rattle.szl.specs.declared.refusal.Refusal.{Refusal}
+use Rattle.sz_refusals.specs.declared.refusal.Refusal.{Refusal}
 use Rattle.szl.specs.Answers.{Answer, refusal, other_job_line, journal_damaged_line}
 use Rattle.szl.specs.Judgement.{Reading, refused, spells}
 use Rattle.szl.specs.Outcome.{outcome_faulted, outcome_refused}

@@ -7,7 +7,7 @@ use Rattle.sz_mean.specs.Marked.{Marked}
 use Rattle.sz_lex.specs.Tokens.{first_place}
 use Rattle.sz_save.specs.Saving.{is_low}
 use Rattle.sz_check_rules.specs.declared.cause.Cause.TheVariants.{TypeTooDeep}
-use Rattle.szl.specs.declared.refusal.Refusal.{Refusal}
+use Rattle.sz_refusals.specs.declared.refusal.Refusal.{Refusal}
 use Rattle.szl.specs.Reserved.{declared_in, runnable}
 use Rattle.sz_protofile_rules.specs.Types.{TypeShape}
 

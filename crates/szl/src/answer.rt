@@ -12,7 +12,7 @@ ghost use Rattle.szl.specs.Opening.{ReadsText, ran_out, past_program, status_of_
 ghost use Rattle.szl.specs.Outcome.{outcome_of_program};
 ghost use Rattle.szl.specs.SavedRuns.{SavesTables, SavedRun};
 ghost use Rattle.szl.specs.Saving.{OfHeld, SavesWith, HasSaved, IfSaving};
-ghost use Rattle.szl.specs.Judgement.{most_program_bytes};
+ghost use Rattle.sz_refusals.specs.Texts.{most_program_bytes};
 ghost use Rattle.szl.specs.Promise.{AreReadToEnd, IfRead, names_asked, most_before};
 ghost use Rattle.szl.specs.ProgramRuns.{CanSave, vec_items_of};
 ghost use Rattle.szl.specs.ProtoReads.{HaveTypeBytes};
@@ -25,7 +25,6 @@ use crate::merging::answer_merge;
 use crate::opening::read_text;
 use crate::program_run::{job_with_workers, tables_of_file};
 use crate::proto::types_named;
-use crate::refusal::FIRST_PLACE;
 use crate::savable::savable;
 use crate::selftest::answer_selftest;
 use std::alloc::Global;
@@ -34,11 +33,9 @@ use sz_check_rules::Cause;
 use sz_core::Program;
 use sz_io::{Files, Gate};
 use sz_protofile_types::NamedTypes;
+use sz_refusals::{FIRST_PLACE, MOST_PROGRAM_BYTES};
 use sz_types::Text;
 use sz_words::{RunSettings, Settings, read_words};
-
-/// The most bytes of a program's text.
-const MOST_PROGRAM_BYTES: usize = 1_048_576;
 
 /// The text that the words ask for, or why there is none.
 pub fn answer<R: Threads + Sync, F: Files, G: Gate + Sync>(

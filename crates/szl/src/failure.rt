@@ -1,10 +1,9 @@
 //! Why a call of the program ends without all its output.
 ghost use Rattle.std.specs.Prelude.{◌≡◌};
 ghost use Rattle.szl.specs.Failing.{status_of};
-ghost use Rattle.szl.specs.Judgement.{refusal_at};
+ghost use Rattle.sz_refusals.specs.Refusing.{refusal_at};
 ghost use Rattle.szl.specs.declared.failure.Failure.TheVariants.{Refused as failed};
 
-use crate::refusal::Refusal;
 use crate::status::Status;
 use std::alloc::AllocError;
 use sz_check_rules::Cause;
@@ -14,6 +13,7 @@ use sz_lex::LexError;
 use sz_machine::Fault;
 use sz_parse::ParseError;
 use sz_protofile_rules::Fault as FileFault;
+use sz_refusals::Refusal;
 use sz_resume::Halt;
 use sz_stream::Stop;
 use sz_types::Place;

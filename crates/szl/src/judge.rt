@@ -4,12 +4,11 @@ ghost use Rattle.sz_core.specs.Sound.{IsSound};
 ghost use Rattle.sz_protofile_laws.specs.Sound.{AreSound};
 ghost use Rattle.sz_tree.specs.View.{program_of};
 ghost use Rattle.szl.specs.Checking.{checked};
-ghost use Rattle.szl.specs.Judgement.{HasStatements, most_program_bytes};
+ghost use Rattle.sz_refusals.specs.Texts.{HasStatements, most_program_bytes};
 ghost use Rattle.szl.specs.Judging.{IsFailureOf, IsFailureOn};
 
 use crate::failure::Failure;
 use crate::heights::Stack;
-use crate::refusal::Refusal;
 use std::alloc::Global;
 use sz_check::{CheckError, check_with};
 use sz_check_rules::Cause;
@@ -17,10 +16,11 @@ use sz_core::Program;
 use sz_lex::lex;
 use sz_parse::parse;
 use sz_protofile_types::NamedTypes;
+use sz_refusals::Refusal;
 use sz_tree::Tree;
 
 /// The tree that the text spells. Where the stack isn't enough for its types, that counts as want of memory.
-#[tactic(auto, using(crate::proofs::JudgeLemmas::unread_failure, crate::proofs::JudgeLemmas::stuck_failure, crate::proofs::JudgeLemmas::has_statements))]
+#[tactic(auto, using(crate::proofs::JudgeLemmas::unread_failure, crate::proofs::JudgeLemmas::stuck_failure, sz_refusals::proofs::ForCallers::has_statements))]
 pub fn tree_in(alloc: Global, text: &[u8], stack: Stack) -> Result<Tree, Failure>
     requires short { length text.now ≤ most_program_bytes }
     ensures found { IfOk result (λ tree. HasStatements text.now (program_of tree)) }
@@ -36,7 +36,7 @@ pub fn tree_in(alloc: Global, text: &[u8], stack: Stack) -> Result<Tree, Failure
 }
 
 /// The checked program that the tree is where these types are known.
-#[tactic(auto, unfolding(crate::specs::Checking::checked), using(crate::proofs::JudgeLemmas::is_number, crate::proofs::JudgeLemmas::refused_tree))]
+#[tactic(auto, unfolding(crate::specs::Checking::checked), using(sz_refusals::proofs::ForCallers::is_number, sz_refusals::proofs::ForCallers::refused_tree))]
 pub fn checked(alloc: Global, tree: &Tree, types: &NamedTypes) -> Result<Program, Failure>
     requires sound { AreSound types.now }
     ensures found { IfOk result (λ program. checked types.now (program_of tree.now) ≡ Ok program) }

@@ -13,7 +13,6 @@ mod merging;
 mod opening;
 mod program_run;
 mod proto;
-mod refusal;
 mod reserved;
 mod resuming;
 mod savable;

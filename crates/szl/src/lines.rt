@@ -3,10 +3,10 @@ ghost use Rattle.std.specs.Prelude.{◌≡◌, ◌++◌, ◌∷◌, [], IfOk, de
 ghost use Rattle.sz_machine.specs.Ends.{seen_fault};
 ghost use Rattle.szl.specs.Answers.{lost_line, damaged_line, limit_line, bad_tables_line, other_tables_line, tables_limit_line, journal_damaged_line, fault_texts, fault_line};
 
-use crate::refusal::push_place;
 use itoa::Buffer;
 use std::alloc::{AllocError, Global};
 use sz_machine::Fault;
+use sz_refusals::push_place;
 
 /// The line of an input that is damaged at a byte, with its newline.
 pub fn damaged_line(alloc: Global, byte: u64) -> Result<Vec<u8>, AllocError>

@@ -14,12 +14,12 @@ ghost use Rattle.szl.specs.ProtoReads.{past_file, HaveTypeBytes, TellsTypes, Rea
 use crate::failure::Failure;
 use crate::heights::Stack;
 use crate::opening::read_text;
-use crate::refusal::{push_name, push_place};
 use std::alloc::{AllocError, Global};
 use sz_io::Files;
 use sz_protofile_laws::{field_names_are_names, file_types_are_sound};
 use sz_protofile_rules::Fault as FileFault;
 use sz_protofile_types::{NamedTypes, ProtoError, read_proto};
+use sz_refusals::{push_name, push_place};
 use sz_types::{Place, Text};
 
 /// The most bytes of the file.

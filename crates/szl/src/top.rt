@@ -21,13 +21,13 @@ use crate::lines::{
     other_tables_line, tables_limit_line,
 };
 use crate::proto::bad_file_line;
-use crate::refusal::refusal_line;
 use crate::resuming::answer_on_disk;
 use crate::status::Status;
 use std::alloc::{AllocError, Global};
 use std::thread::Threads;
 use sz_disk::Disk;
 use sz_io::{Files, Gate, Sink, WriteError, write_whole};
+use sz_refusals::refusal_line;
 
 /// Runs the command line of these words, which come without the program's name: opens what it names in `files`,
 /// writes its text to `out`, and the line that says why there is none to `err`. Only status 0 says that all of the text is there; after a write

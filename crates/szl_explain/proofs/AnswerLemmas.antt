@@ -11,8 +11,11 @@ use Rattle.sz_io.specs.declared.sink.Sink as sink
 use Rattle.sz_io.specs.Calls.{AppendsPart, bytes_taken}
 use Rattle.sz_lex.specs.Tokens.{first_place}
 use Rattle.sz_check_rules.specs.declared.cause.Cause.TheVariants.{TooLong}
-use Rattle.szl_explain_judge.specs.declared.refusal.Refusal.{Refusal}
-use Rattle.szl_explain_judge.specs.Refusing.{IsProgram, IsRefused, refusal_at, refusal_line, most_program_bytes}
+use Rattle.sz_refusals.specs.declared.refusal.Refusal.{Refusal}
+use Rattle.sz_refusals.specs.Refusing.{refusal_at}
+use Rattle.sz_refusals.specs.Lines.{refusal_line}
+use Rattle.sz_refusals.specs.Texts.{most_program_bytes}
+use Rattle.szl_explain_judge.specs.Refusing.{IsProgram, IsRefused}
 use Rattle.szl_explain.specs.declared.explanation.Explanation.{Explanation}
 use Rattle.szl_explain.specs.declared.program.Status.{Status}
 use Rattle.szl_explain.specs.declared.program.Status.TheVariants.{Done, Usage, Program, ReadFailed, WriteFailed, NoMemory}

@@ -6,8 +6,9 @@ use Rattle.sz_io.specs.Words.{is_file_name}
 use Rattle.sz_io.specs.Calls.{NamesGain}
 use Rattle.sz_io.specs.declared.files.Files as files
 use Rattle.sz_io.specs.declared.sink.Sink as sink
-use Rattle.szl_explain_judge.specs.declared.refusal.Refusal.{Refusal}
-use Rattle.szl_explain_judge.specs.Refusing.{IsProgram, IsRefused, refusal_line}
+use Rattle.sz_refusals.specs.declared.refusal.Refusal.{Refusal}
+use Rattle.sz_refusals.specs.Lines.{refusal_line}
+use Rattle.szl_explain_judge.specs.Refusing.{IsProgram, IsRefused}
 use Rattle.szl_explain.specs.declared.program.Status.{Status}
 use Rattle.szl_explain.specs.declared.program.Status.TheVariants.{Done, Usage, Program, ReadFailed, WriteFailed, NoMemory}
 

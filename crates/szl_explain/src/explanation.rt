@@ -2,7 +2,9 @@
 ghost use Rattle.std.specs.Prelude.{◌≡◌, ◌≤◌, length, IfOk, IfSome, IfNone, Some as Just, None as Nothing, codes};
 ghost use Rattle.sz_lex.specs.Tokens.{first_place};
 ghost use Rattle.sz_check_rules.specs.declared.cause.Cause.TheVariants.{TooLong};
-ghost use Rattle.szl_explain_judge.specs.Refusing.{refusal_at, refusal_line, IsProgram, IsRefused};
+ghost use Rattle.sz_refusals.specs.Refusing.{refusal_at};
+ghost use Rattle.sz_refusals.specs.Lines.{refusal_line};
+ghost use Rattle.szl_explain_judge.specs.Refusing.{IsProgram, IsRefused};
 ghost use Rattle.szl_explain.specs.Answers.{first_line};
 
 use crate::fault::Fault;
@@ -12,10 +14,9 @@ use std::alloc::{AllocError, Global};
 use sz_check_rules::Cause;
 use sz_lex::{Tokens, lex};
 use sz_parse::parse;
+use sz_refusals::{FIRST_PLACE, MOST_PROGRAM_BYTES, Refusal, refusal_line};
 use sz_types::Place;
-use szl_explain_judge::{
-    FIRST_PLACE, MOST_PROGRAM_BYTES, Refusal, can_be_tried, refusal_in, refusal_line, top_of,
-};
+use szl_explain_judge::{can_be_tried, refusal_in, top_of};
 use szl_explain_source::{Page, Source};
 use szl_explain_syntax::{say_character, say_literal, say_not_utf8, say_syntax};
 

@@ -12,7 +12,7 @@ use std::alloc::{AllocError, Global};
 use sz_io::{
     Files, ReadError, Sink, WriteError, is_file_name, read_whole, write_line, write_whole,
 };
-use szl_explain_judge::{MOST_PROGRAM_BYTES, Refusal};
+use sz_refusals::{MOST_PROGRAM_BYTES, Refusal};
 
 /// How a call ends, by the statuses that `szl` has for the same.
 #[derive(Clone, Copy, Debug, PartialEq, Eq)]

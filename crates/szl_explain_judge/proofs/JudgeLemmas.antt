@@ -1,7 +1,6 @@
 -- How a text is judged step by step: its tokens, its tree, and what the tree stands for.
-use Rattle.std.proofs.Common.{◌≡◌, ◌⊎◌, inl, inr, ℕ, List, Option, refl, sym, ap, ◌∙◌, subst}
-use Rattle.std.specs.Prelude.{Ok, Err}
-use Rattle.sz_types.specs.declared.place.Place.{Place}
+use Rattle.std.proofs.Common.{◌≡◌, ◌⊎◌, inl, inr, ℕ, List, refl, sym, subst}
+use Rattle.std.specs.Prelude.{Ok}
 use Rattle.sz_lex.specs.declared.error.LexError.{LexError}
 use Rattle.sz_lex.specs.declared.error.LexError.TheVariants as lexing
 use Rattle.sz_lex.specs.Tokens.{HasTokens, IsRefused}
@@ -9,15 +8,12 @@ use Rattle.sz_lex.specs.Lexed.{Lexed}
 use Rattle.sz_tree.specs.Statements.{Stms}
 use Rattle.sz_parse.specs.declared.error.ParseError.{ParseError}
 use Rattle.sz_parse.specs.declared.error.ParseError.TheVariants as parsing
-use Rattle.sz_parse.specs.Program.{Spells, IsStuck}
+use Rattle.sz_parse.specs.Program.{IsStuck}
 use Rattle.sz_parse.specs.Parsed.{OrNoMemory}
 use Rattle.sz_core.specs.Programs.{Core}
-use Rattle.sz_check_rules.specs.declared.cause.Cause.{Cause}
-use Rattle.sz_check_rules.specs.Causes.{number_of, IsNumber}
-use Rattle.sz_check_rules.specs.Refusals.{Judged}
-use Rattle.sz_check.specs.declared.error.CheckError.TheVariants as checking
-use Rattle.sz_check.specs.Answering.{Answers}
-use Rattle.szl_explain_judge.specs.Refusing.{IsShort, HasStatements, IsProgram, checked, judged_so, stop_of_lexing, stop_of_parsing, IsUnreadStop, IsStopOf, IsStopOn}
+use Rattle.sz_refusals.specs.Texts.{IsShort, HasStatements}
+use Rattle.sz_refusals.proofs.ForCallers.{has_stuck_tokens}
+use Rattle.szl_explain_judge.specs.Refusing.{IsProgram, checked, stop_of_lexing, stop_of_parsing, IsUnreadStop, IsStopOf, IsStopOn}
 use Rattle.szl_explain_judge.specs.declared.stop.Stop.{Stop}
 use Rattle.szl_explain_judge.specs.declared.stop.Stop.TheVariants as stops
 
@@ -36,30 +32,8 @@ unread_stop text e short (inr h) = refused_stop text e short h
 -- tokens that are stuck are refused
 pub stuck_stop : (text : List ℕ) (tokens : Lexed) (e : ParseError) → IsShort text → HasTokens text tokens.tokens → tokens.text ≡ text
     → OrNoMemory e (λ p. IsStuck tokens p) → IsUnreadStop text (stop_of_parsing e)
-stuck_stop text tokens (parsing.Syntax q) short has is h =
-    let stuck = subst (λ t. IsStuck (record { text = t; tokens = tokens.tokens }) q) is h in
-    ((short, record { tokens = tokens.tokens; has = has; stuck = stuck }), refl)
+stuck_stop text tokens (parsing.Syntax q) short has is h = ((short, has_stuck_tokens text tokens q has is h), refl)
 stuck_stop text tokens parsing.NoMemory short has is h = tt
-
--- tokens that spell statements are those of the text
-pub has_statements : (text : List ℕ) (tokens : Lexed) (ss : Stms) → HasTokens text tokens.tokens → tokens.text ≡ text → Spells tokens ss
-    → HasStatements text ss
-has_statements text tokens ss has is h = record {
-  tokens = tokens.tokens;
-  has = has;
-  spells = subst (λ t. Spells (record { text = t; tokens = tokens.tokens }) ss) is h;
-}
-
--- a tree that is refused has the number of a cause, and is refused for it
-pub is_number : (number : ℕ) (p : Place) (name : Option (List ℕ)) (judged : Judged Core) → Answers (Err (checking.Refused number p name)) judged
-    → IsNumber number
-is_number number p name judged h = (h.0, h.1)
-
-pub refused_tree : (number : ℕ) (p : Place) (name : Option (List ℕ)) (judged : Judged Core) (cause : Cause)
-    → Answers (Err (checking.Refused number p name)) judged → ((c : Cause) → number ≡ number_of c → cause ≡ c)
-    → judged_so judged ≡ Err (record { cause = cause; place = p; name = name })
-refused_tree number p name judged cause h only =
-    ap judged_so h.2 ∙ ap (λ (c : Cause). Err (record { cause = c; place = p; name = name })) (sym (only h.0 h.1))
 
 -- what stops the reading of a text stops the judgement of it
 pub unread_is_stop : (text : List ℕ) (s : Stop) → IsUnreadStop text s → IsStopOf text s

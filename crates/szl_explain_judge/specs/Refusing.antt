@@ -1,67 +1,18 @@
--- What a text is: a program, or refused for a cause, at a place and with a name; and the line that says so.
-use Rattle.std.specs.Prelude.{◌≡◌, ◌⊎◌, ℕ, ◌<◌, ◌≤◌, List, [], ◌∷◌, ◌++◌, length, codes, decimal, Option, Some, None, Result, Ok, Err, ⊤}
-use Rattle.sz_types.specs.declared.place.Place.{Place}
-use Rattle.sz_lex.specs.declared.token.Token.{Token}
+-- What a text is: a program, or refused for a cause, at a place and with a name.
+use Rattle.std.specs.Prelude.{◌≡◌, ◌⊎◌, ℕ, List, None, Result, Ok, Err, ⊤}
 use Rattle.sz_lex.specs.declared.error.LexError.{LexError}
 use Rattle.sz_lex.specs.declared.error.LexError.TheVariants as lexing
-use Rattle.sz_lex.specs.Tokens.{HasTokens, HasBadChar, HasBadLiteral, HasNotUtf8, first_place}
 use Rattle.sz_tree.specs.Statements.{Stms}
-use Rattle.sz_parse.specs.Program.{Spells, IsStuck}
 use Rattle.sz_parse.specs.declared.error.ParseError.{ParseError}
 use Rattle.sz_parse.specs.declared.error.ParseError.TheVariants as parsing
 use Rattle.sz_core.specs.Programs.{Core}
-use Rattle.sz_check_rules.specs.Causes.{text_of}
-use Rattle.sz_check_rules.specs.Refusals.{Judged}
-use Rattle.sz_check_rules.specs.Refusals as judging
 use Rattle.sz_check_rules.specs.JudgingPrograms.{judge_program}
-use Rattle.sz_check_rules.specs.declared.cause.Cause.{Cause}
-use Rattle.sz_check_rules.specs.declared.cause.Cause.TheVariants.{BadChar, BadLiteral, NotUtf8, TooLong, Syntax}
-use Rattle.szl_explain_judge.specs.declared.refusal.Refusal.{Refusal}
+use Rattle.sz_check_rules.specs.declared.cause.Cause.TheVariants.{BadChar, BadLiteral, NotUtf8, Syntax}
+use Rattle.sz_refusals.specs.declared.refusal.Refusal.{Refusal}
+use Rattle.sz_refusals.specs.Refusing.{refusal_at, judged_so}
+use Rattle.sz_refusals.specs.Texts.{IsShort, HasStatements, IsUnreadable}
 use Rattle.szl_explain_judge.specs.declared.stop.Stop.{Stop}
 use Rattle.szl_explain_judge.specs.declared.stop.Stop.TheVariants.{Refused, NoMemory}
-
--- the refusal for a cause at a place, without a name
-abbrev pub refusal_at : Cause → Place → Refusal
-refusal_at cause place = record { cause = cause; place = place; name = None }
-
--- the most bytes of a program's text
-abbrev pub most_program_bytes : ℕ
-most_program_bytes = 1048576
-
--- the text is within the limit
-abbrev pub IsShort : List ℕ → Type 0
-IsShort text = length text ≤ most_program_bytes
-
--- the text has tokens, and these are stuck at the place
-pub record HasStuckTokens (text : List ℕ) (place : Place) : Type 0 where
-  pub tokens : List Token
-  pub has : HasTokens text tokens
-  pub stuck : IsStuck (record { text = text; tokens = tokens }) place
-
--- the text has tokens, and these spell the statements
-pub record HasStatements (text : List ℕ) (statements : Stms) : Type 0 where
-  pub tokens : List Token
-  pub has : HasTokens text tokens
-  pub spells : Spells (record { text = text; tokens = tokens }) statements
-
--- The text can't be read, for a cause at a place. It has one such cause at the most: the length is asked first, then whether it is UTF-8; then the first
--- byte or literal from the left that makes no token, whichever of the two stands there; and then the first statement that isn't one
-abbrev pub IsUnreadable : List ℕ → Cause → Place → Type 0
-IsUnreadable text TooLong place = (most_program_bytes < length text) × (place ≡ first_place)
-IsUnreadable text NotUtf8 place = IsShort text × HasNotUtf8 text place
-IsUnreadable text BadChar place = IsShort text × HasBadChar text place
-IsUnreadable text BadLiteral place = IsShort text × HasBadLiteral text place
-IsUnreadable text Syntax place = IsShort text × HasStuckTokens text place
-IsUnreadable text cause place = ⊥
-
--- a refusal of the judgement, by its cause
-abbrev pub refusal_of : judging.Refusal → Refusal
-refusal_of r = record { cause = r.cause; place = r.place; name = r.name }
-
--- what is judged, with its refusal by its cause
-abbrev pub judged_so : Judged Core → Result Core Refusal
-judged_so (Ok program) = Ok program
-judged_so (Err r) = Err (refusal_of r)
 
 -- the checked program that statements are, or their first refusal
 unfoldable pub checked : Stms → Result Core Refusal
@@ -112,16 +63,3 @@ stop_of_lexing lexing.NoMemory = NoMemory
 abbrev pub stop_of_parsing : ParseError → Stop
 stop_of_parsing (parsing.Syntax place) = Refused (refusal_at Syntax place)
 stop_of_parsing parsing.NoMemory = NoMemory
-
--- the name of a refusal after the text of its cause, if it has one
-abbrev pub name_text : Option (List ℕ) → List ℕ
-name_text None = []
-name_text (Some name) = codes ": " ++ name
-
--- a place as the line names it
-abbrev pub place_text : Place → List ℕ
-place_text place = decimal place.line ++ (codes ":" ++ decimal place.column)
-
--- the line that says why a program is refused, and where
-abbrev pub refusal_line : Refusal → List ℕ
-refusal_line r = codes "program: " ++ (text_of r.cause ++ (name_text r.name ++ (codes " at " ++ (place_text r.place ++ 10 ∷ []))))

@@ -1,9 +1,9 @@
 //! Whether a text is a program, and why it isn't one.
 ghost use Rattle.std.specs.Prelude.{◌≡◌, ◌≤◌, length, IfOk, IfErr, IfSome, IfNone, OnOk, Ok};
 ghost use Rattle.sz_tree.specs.View.{program_of};
-ghost use Rattle.szl_explain_judge.specs.Refusing.{checked, most_program_bytes, HasStatements, IsProgram, IsRefused, IsUnreadStop, IsStopOf, IsStopOn};
+ghost use Rattle.sz_refusals.specs.Texts.{most_program_bytes, HasStatements};
+ghost use Rattle.szl_explain_judge.specs.Refusing.{checked, IsProgram, IsRefused, IsUnreadStop, IsStopOf, IsStopOn};
 
-use crate::refusal::Refusal;
 use crate::stop::Stop;
 use std::alloc::{AllocError, Global};
 use sz_check::{CheckError, check};
@@ -11,14 +11,8 @@ use sz_check_rules::Cause;
 use sz_core::Program;
 use sz_lex::lex;
 use sz_parse::parse;
+use sz_refusals::{FIRST_PLACE, MOST_PROGRAM_BYTES, Refusal};
 use sz_tree::Tree;
-use sz_types::Place;
-
-/// The most bytes of a program's text.
-pub const MOST_PROGRAM_BYTES: usize = 1_048_576;
-
-/// The place of a text's first byte.
-pub const FIRST_PLACE: Place = Place { line: 1, column: 1 };
 
 /// The first refusal of the text, or nothing where it is a program.
 pub fn refusal_in(alloc: Global, text: &[u8]) -> Result<Option<Refusal>, AllocError>
@@ -47,7 +41,7 @@ fn judge(alloc: Global, text: &[u8]) -> Result<(), Stop>
 }
 
 /// The tree that the text spells.
-#[tactic(auto, using(crate::proofs::JudgeLemmas::unread_stop, crate::proofs::JudgeLemmas::stuck_stop, crate::proofs::JudgeLemmas::has_statements))]
+#[tactic(auto, using(crate::proofs::JudgeLemmas::unread_stop, crate::proofs::JudgeLemmas::stuck_stop, sz_refusals::proofs::ForCallers::has_statements))]
 fn tree_in(alloc: Global, text: &[u8]) -> Result<Tree, Stop>
     requires short { length text.now ≤ most_program_bytes }
     ensures found { IfOk result (λ tree. HasStatements text.now (program_of tree)) }
@@ -59,7 +53,7 @@ fn tree_in(alloc: Global, text: &[u8]) -> Result<Tree, Stop>
 }
 
 /// The checked program that the tree is.
-#[tactic(auto, unfolding(crate::specs::Refusing::checked), using(crate::proofs::JudgeLemmas::is_number, crate::proofs::JudgeLemmas::refused_tree))]
+#[tactic(auto, unfolding(crate::specs::Refusing::checked), using(sz_refusals::proofs::ForCallers::is_number, sz_refusals::proofs::ForCallers::refused_tree))]
 fn checked(alloc: Global, tree: &Tree) -> Result<Program, Stop>
     ensures found { IfOk result (λ program. checked (program_of tree.now) ≡ Ok program) }
     ensures refused { IfErr result (λ stop. IsStopOn (checked (program_of tree.now)) stop) }

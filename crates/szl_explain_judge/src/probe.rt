@@ -1,8 +1,8 @@
 //! Small changes of a program, and what is said of the changed one: so is found what stands at a place, and what could.
 use crate::judge::refusal_in;
-use crate::refusal::Refusal;
 use std::alloc::{AllocError, Global};
 use sz_check_rules::Cause;
+use sz_refusals::Refusal;
 use sz_types::Place;
 use szl_explain_source::{Source, is_before, joined, part, place_of};
 

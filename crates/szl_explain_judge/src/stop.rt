@@ -1,10 +1,10 @@
 //! Why a text is no program that can be judged further.
 ghost use Rattle.std.specs.Prelude.{◌≡◌};
 
-use crate::refusal::Refusal;
 use sz_check_rules::Cause;
 use sz_lex::LexError;
 use sz_parse::ParseError;
+use sz_refusals::Refusal;
 
 /// Why a judgement ends without a program.
 #[derive(Drop)]

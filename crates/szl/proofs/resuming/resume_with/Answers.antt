@@ -5,7 +5,8 @@ use Rattle.std.proofs.lemmas.Result.{err_from_is_err_and}
 use Rattle.sz_io.specs.Rose.{Rose}
 use Rattle.sz_io.specs.Calls.{NamesGain}
 use Rattle.szl.specs.Failing.{status_of}
-use Rattle.szl.specs.Judgement.{IsRead, most_program_bytes}
+use Rattle.sz_refusals.specs.Texts.{most_program_bytes}
+use Rattle.szl.specs.Judgement.{IsRead}
 use Rattle.szl.specs.JournalRuns.{AnswersJob, IsTextOutcome, but_one}
 use Rattle.szl.specs.Opening.{ReadsText, past_program, ran_out, status_of_answer}
 use Rattle.szl.specs.ProgramRuns.{vec_items_of}

@@ -10,7 +10,7 @@ use Rattle.sz_feed.specs.Feed.{file_of}
 use Rattle.sz_feed.specs.Program.{program_text}
 use Rattle.sz_tree.specs.View.{program_of}
 use Rattle.szl.specs.Judging.{IsFailureOf, IsFailureOn}
-use Rattle.szl.specs.Judgement.{HasStatements, most_program_bytes}
+use Rattle.sz_refusals.specs.Texts.{HasStatements, most_program_bytes}
 use Rattle.szl.specs.Opening.{AnswersOver}
 use Rattle.szl.specs.ProgramRuns.{vec_items_of}
 use Rattle.sz_words.specs.Bounds.{HasBounds}

@@ -1,14 +1,16 @@
-//! Why a program is refused, in the answer of `szl`.
-ghost use Rattle.std.specs.Prelude.{◌≡◌, ◌++◌, IfOk, OnOk};
-ghost use Rattle.szl.specs.Judgement.{refusal_at};
-ghost use Rattle.szl.specs.Answers.{place_text};
-ghost use Rattle.szl.specs.Answers.{name_text};
-ghost use Rattle.szl.specs.Outcome.{refusal_line};
+//! Why a program is refused, and the line that says so.
+ghost use Rattle.std.specs.Prelude.{◌≡◌, ◌++◌, [], IfOk, OnOk};
+ghost use Rattle.std.specs.Option.{unwrap_or};
+ghost use Rattle.sz_refusals.specs.Refusing.{refusal_at};
+ghost use Rattle.sz_refusals.specs.Lines.{name_text, place_text, refusal_line};
 
 use itoa::Buffer;
 use std::alloc::{AllocError, Global};
 use sz_check_rules::Cause;
 use sz_types::{Place, Text};
+
+/// The most bytes of a program's text.
+pub const MOST_PROGRAM_BYTES: usize = 1_048_576;
 
 /// The place of a text's first byte.
 pub const FIRST_PLACE: Place = Place { line: 1, column: 1 };
@@ -40,6 +42,16 @@ impl Refusal {
             cause,
             place,
             name: None,
+        }
+    }
+
+    /// The bytes of its name, or none.
+    pub fn name_bytes(&self) -> &[u8]
+        ensures value { result.now ≡ unwrap_or self.now.name [] }
+    {
+        match &self.name {
+            Some(name) => name.as_bytes(),
+            None => b"",
         }
     }
 }
