@@ -5,7 +5,7 @@ use Rattle.std.specs.Cmp.{on_total, IsStrictWeakOrder}
 use Rattle.std.specs.List.{IsDistinct, AllByRecursion}
 use Rattle.std.proofs.lemmas.List.MinMax.{ranks_by}
 use Rattle.std.proofs.lemmas.List.Elements.{All-from_recursion, recursion_from_All}
-use Rattle.std.proofs.lemmas.List.Sorted.{IsPermutation-map, All-permutation}
+use Rattle.std.proofs.lemmas.List.Sorted.{IsPermutation-map, IsPermutation-trans, All-permutation}
 use Rattle.std.specs.Option.{option_map_or}
 use Rattle.std.specs.Map.{keys_of, lookup, set_value}
 use Rattle.indexmap.specs.IndexMap.{set_value_at}
@@ -16,7 +16,7 @@ use Rattle.sz_tabs.specs.Sorting.{sorted}
 use Rattle.sz_tabs.proofs.ForCallers.{stable_sort_is_sorted, sorted_mapped, sorted_in_any_order}
 use Rattle.sz_total.specs.Aggregates.{shown_of}
 use Rattle.sz_total.specs.Tables.{Indexed}
-use Rattle.sz_total.specs.Entries.{Entries, same_indexes, indexed, entry_rows, rows_in_order}
+use Rattle.sz_total.specs.Entries.{Entries, SortsAll, same_indexes, indexed, entry_rows, rows_in_order}
 use Rattle.sz_total.specs.declared.aggregate.Aggregate.{Aggregate}
 use Rattle.sz_total.proofs.TablesLemmas.{indexes_total, indexes_tie}
 use Rattle.sz_total.proofs.ListLemmas.{same_laws, distinct_apart}
@@ -77,6 +77,13 @@ entries_sorted entries new apart moved in_order =
     keys_are =
         ap keys_of (stable_sort_is_sorted (on_total key indexes_total) new new in_order (λ v. refl)) ∙ sym (sorted_mapped compare_indexes key new)
         ∙ sym (sorted_in_any_order indexes_total indexes_tie (keys_of entries) (keys_of new) (IsPermutation-map key entries new moved))
+
+-- what a sort leaves of entries in whatever order they stood
+pub sorts_all : (old new : Entries) → IsPermutation old new → IsSorted entries_order new → SortsAll old new
+sorts_all old new moved in_order = record {
+  same = moved;
+  rows = λ all apart before. entries_sorted all new apart (IsPermutation-trans all old new before moved) in_order;
+}
 
 -- the first key, where it is empty
 pub first_key : (es : Entries) (key : List Datum) (a : Aggregate) → Some (key, a) ≡ slice_get es 0 → key ≡ [] → slice_get (keys_of es) 0 ≡ Some []

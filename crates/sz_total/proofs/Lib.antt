@@ -7,6 +7,7 @@ mod TurnLemmas
 mod TypedLemmas
 mod KeyLemmas
 mod ReadLemmas
+mod ChunkLemmas
 mod PlaceLemmas
 mod PartLemmas
 mod PartsLemmas

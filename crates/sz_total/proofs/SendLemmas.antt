@@ -5,6 +5,7 @@ use denote.Param.Send.{IsSend, IsSync, sendable, view_send, view_sync}
 use denote.Param.SendFields.{declared_send, declared_sync}
 use Rattle.std.proofs.Crossing.{crosses}
 use Rattle.sz_list.proofs.items.Items.TheSendSync as items
+use Rattle.sz_list.proofs.seen.SeenItems.TheSendSync as seen
 use Rattle.sz_types.proofs.table.TableKind.TheSendSync as kind
 use Rattle.sz_types.proofs.encoding.Encoding.TheSendSync as encoding
 use Rattle.sz_types.proofs.text.Text.TheSendSync as text
@@ -17,7 +18,6 @@ use Rattle.indexmap.proofs.map.IndexMap.TheSendSync as index_map
 use Rattle.sz_flat.proofs.flat_list.FlatList.TheSendSync as flat
 use Rattle.sz_flat.proofs.ranked_list.RankedList.TheSendSync as ranked
 use Rattle.sz_types.specs.contracts.table.TableDecl as TableDecl
-use Rattle.sz_types.specs.contracts.tables.TableDecls as TableDecls
 use Rattle.std_alloc.proofs.collections.binary_heap.BinaryHeap.TheSendSync as heap
 use Rattle.sz_sum.specs.contracts.sum.Sum as Sum
 use Rattle.sz_extreme.specs.contracts.extreme.Extreme as Extreme
@@ -34,6 +34,8 @@ ruleset parts = (
   crosses,
   items.the_send,
   items.the_sync,
+  seen.the_send,
+  seen.the_sync,
   kind.the_sync,
   encoding.the_send,
   encoding.the_sync,
@@ -68,15 +70,12 @@ table_sync =
       ),
     )
 
-pub tables_sync : IsSync TableDecls.the_row
-tables_sync = view_sync _ _ _ _ _ (declared_sync TableDecls.TheInside.the_type (search (parts, table_sync) depth 30, tt))
-
 module _ (κ : NamedLft) where
   sum_send : IsSend (Sum.the_row κ)
-  sum_send = let t = tables_sync in let u = table_sync in search parts depth 30
+  sum_send = let t = table_sync in search parts depth 30
 
   sum_sync : IsSync (Sum.the_row κ)
-  sum_sync = let t = tables_sync in let u = table_sync in search parts depth 30
+  sum_sync = let t = table_sync in search parts depth 30
 
   extreme_send : IsSend (Extreme.the_row κ)
   extreme_send =
@@ -203,22 +202,37 @@ module _ (κ : NamedLft) where
   pub total_send : IsSend (Total.the_row κ)
   total_send =
       view_send _ _ _ _ _ (declared_send (Total.TheInside.the_type κ) (
-        search (parts, tables_sync) depth 30,
+        search (parts, table_sync) depth 30,
         (
           search parts depth 30,
-          (search (parts, one_table_send) depth 30, tt),
+          (
+            search (parts, one_table_send) depth 30,
+            (search parts depth 30, tt),
+          ),
         ),
       ))
 
   pub total_sync : IsSync (Total.the_row κ)
   total_sync =
       view_sync _ _ _ _ _ (declared_sync (Total.TheInside.the_type κ) (
-        search (parts, tables_sync) depth 30,
+        search (parts, table_sync) depth 30,
         (
           search parts depth 30,
-          (search (parts, one_table_sync) depth 30, tt),
+          (
+            search (parts, one_table_sync) depth 30,
+            (search parts depth 30, tt),
+          ),
         ),
       ))
+
+-- an index list that is lent with its aggregator
+pub entry_send : (ρ κ : NamedLft) → IsSend (Entry.the_row ρ κ)
+entry_send ρ κ =
+    let aggregate = aggregate_sync κ in
+    view_send _ _ _ _ _ (declared_send (Entry.TheInside.the_type ρ κ) (
+      search (parts, ranked.the_send) depth 30,
+      (search (parts, aggregate) depth 30, tt),
+    ))
 
 -- the rows of a table in order lend its index lists, each with its aggregator
 pub rows_sync : (ρ κ : NamedLft) → IsSync (RowsInOrder.the_row ρ κ)
@@ -226,7 +240,7 @@ rows_sync ρ κ =
     let aggregate = aggregate_sync κ in
     let entry : IsSync (Entry.the_row ρ κ) =
     view_sync _ _ _ _ _ (declared_sync (Entry.TheInside.the_type ρ κ) (
-      search (parts, flat.the_sync, ranked.the_sync) depth 30,
+      search (parts, ranked.the_sync) depth 30,
       (search (parts, aggregate) depth 30, tt),
     )) in
     view_sync _ _ _ _ _ (declared_sync (RowsInOrder.TheInside.the_type ρ κ) (search (parts, entry) depth 30, tt))

@@ -1,5 +1,6 @@
 -- What a table keeps: an aggregator for each index list, the rows that these show, and what one emit more does to them.
-use Rattle.std.specs.Prelude.{◌≡◌, ◌≤◌, ◌+◌, ℕ, Bool, false, List, [], ◌∷◌, ◌++◌, map, All}
+use Rattle.std.specs.Prelude.{◌≡◌, ◌≤◌, ◌+◌, ℕ, Bool, false, List, [], ◌∷◌, ◌++◌, map, All, IsPermutation}
+use Rattle.std.specs.List.{IsDistinct}
 use Rattle.std.specs.Ordering.{is_eq}
 use Rattle.std.specs.Option.{option_map_or}
 use Rattle.std.specs.Map.{keys_of, values_of, lookup}
@@ -38,6 +39,11 @@ entry_rows entry = record { indexes = entry.0; rows = shown_of entry.1 }
 -- the rows under each index list, these in value order
 abbrev pub rows_in_order : Entries → List Indexed
 rows_in_order entries = map (indexed entries) (distinct compare_indexes (keys_of entries))
+
+-- the new entries are the old ones, and those of any order that has no index list twice, with its rows in value order
+pub record SortsAll (old new : Entries) : Type 0 where
+  pub same : IsPermutation old new
+  pub rows : (all : Entries) → IsDistinct same_indexes (keys_of all) → IsPermutation all old → map entry_rows new ≡ rows_in_order all
 
 -- the aggregator is one of the table and of the family that its kind needs, counts at most so many emits, and stands for some list of
 -- emits whose values have short lengths

@@ -8,13 +8,27 @@ use std::alloc::Global;
 use std::thread;
 use std::thread::Threads;
 
+// Fewer index lists are no work for threads: to start one takes as long as to join hundreds.
+const FEWEST_FOR_THREADS: usize = 4096;
+
+// Which tables are dealt out to parts before they are merged, besides those of which one side already is.
+#[derive(Clone, Copy)]
+pub(crate) enum Dealing {
+    // None.
+    Never,
+    // Those that are large on both sides.
+    BothLarge,
+    // Those that are large on one side.
+    OneLarge,
+}
+
 // Who joins the parts of tables: the caller alone, or threads.
 pub(crate) trait Hands {
     // What has to be known of what they share.
     ghost may_share: { Type 0 };
 
-    // Whether parts of a table are joined at the same time.
-    fn are_many(&self) -> bool;
+    // Which tables they want dealt out.
+    fn dealing(&self) -> Dealing;
 
     // Joins what waits at each part. There is room for it.
     fn settle_all<'a>(&self, alloc: Global, parts: &mut Vec<Part<'a>>)
@@ -23,15 +37,21 @@ pub(crate) trait Hands {
         ensures settled { SettleAll parts.old.items parts.new.items };
 }
 
-// The caller, who joins one part after the other.
+// The caller, who joins one part after the other, and deals large tables out early where threads are to join them with others later.
 #[derive(Drop)]
-pub(crate) struct Alone;
+pub(crate) struct Alone {
+    pub(crate) early: bool,
+}
 
 impl Hands for Alone {
     ghost may_share = { ⊤ };
 
-    fn are_many(&self) -> bool {
-        false
+    fn dealing(&self) -> Dealing {
+        if self.early {
+            Dealing::OneLarge
+        } else {
+            Dealing::Never
+        }
     }
 
     fn settle_all<'a>(&self, alloc: Global, parts: &mut Vec<Part<'a>>) {
@@ -50,17 +70,30 @@ pub(crate) struct InThreads<'r, R: Threads + Sync> {
 impl<'r, R: Threads + Sync> Hands for InThreads<'r, R> {
     ghost may_share = { IsSync R.row };
 
-    fn are_many(&self) -> bool {
-        self.threads > 1
+    fn dealing(&self) -> Dealing {
+        if self.threads > 1 {
+            Dealing::BothLarge
+        } else {
+            Dealing::Never
+        }
     }
 
     fn settle_all<'a>(&self, alloc: Global, parts: &mut Vec<Part<'a>>) {
-        if parts.len() == 1 {
+        if parts.len() == 1 || few_wait(parts) {
             settle_one_by_one(alloc, parts);
         } else {
             settle_by(self.rt, self.threads, alloc, parts);
         }
     }
+}
+
+// Whether so few wait at the parts that they are joined before threads are started.
+fn few_wait<'a>(parts: &Vec<Part<'a>>) -> bool {
+    let mut waiting: usize = 0;
+    for part in parts {
+        waiting = waiting.saturating_add(part.waiting());
+    }
+    waiting < FEWEST_FOR_THREADS
 }
 
 // Joins what waits at each part, one part after the other.

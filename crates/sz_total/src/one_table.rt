@@ -9,18 +9,19 @@ ghost use Rattle.sz_total.specs.Short.{HasShortParts};
 ghost use Rattle.sz_total.specs.Weights.{HasItsWeights};
 
 use crate::dealing::deal_out;
-use crate::hands::Hands;
+use crate::hands::{Dealing, Hands};
 use crate::in_order::{RowsInOrder, all_rows};
 use crate::indexed::TableRows;
 use crate::part::Part;
 use crate::parts::{add_to_part, receive_all, reserve_parts};
 use std::alloc::Global;
 use std::marker::Model;
+use std::thread::Threads;
 use sz_flat::FlatList;
 use sz_tabs::{Emit, NoMemory};
 use sz_types::TableDecl;
 
-// From how many index lists on two tables are merged part by part.
+// A table of more index lists is large.
 const LARGE: usize = 4096;
 
 /// What was emitted to one table, index list by index list, and the room in which the index list of an emit is spelled. The index lists
@@ -81,30 +82,42 @@ impl<'a> OneTable<'a> {
         Ok(())
     }
 
-    /// Makes room for a merge of the other table, which has the same declaration. Where threads share it and both are large, or either has
-    /// parts, both are dealt out to parts.
-    pub(crate) fn reserve(&mut self, other: &mut OneTable<'a>, shared: bool) -> Result<(), NoMemory>
+    /// Makes room for a merge of the other table, which has the same declaration. Where both are to be dealt out, or either has parts, both
+    /// are dealt out to parts.
+    pub(crate) fn reserve(
+        &mut self,
+        other: &mut OneTable<'a>,
+        dealing: Dealing,
+    ) -> Result<(), NoMemory>
         requires same { other.old.table ≡ self.old.table }
         ensures ok { OnOk result (HasRoomToMerge self.new other.new) }
         ensures kept { ChangesRoomAlone self.old self.new }
         ensures other { ChangesRoomAlone other.old other.new }
     {
-        self.deal_beside(other, shared)?;
+        self.deal_beside(other, dealing)?;
         self.reserve_beside(other)
     }
 
-    // Deals the index lists of both tables out to parts, where threads share the merge and both are large, or either has parts.
-    fn deal_beside(&mut self, other: &mut OneTable<'a>, shared: bool) -> Result<(), NoMemory>
+    // Deals the index lists of both tables out to parts, where they are to be, or either has parts.
+    fn deal_beside(&mut self, other: &mut OneTable<'a>, dealing: Dealing) -> Result<(), NoMemory>
         ensures ok { OnOk result (length other.new.parts ≡ length self.new.parts) }
         ensures kept { ChangesRoomAlone self.old self.new }
         ensures other { ChangesRoomAlone other.old other.new }
     {
-        let worth = shared && self.is_large() && other.is_large();
-        if self.parts.len() == other.parts.len() && !worth {
+        if self.parts.len() == other.parts.len() && !self.are_to_be_dealt(other, dealing) {
             return Ok(());
         }
         self.deal()?;
         other.deal()
+    }
+
+    // Whether this table and the other are large enough to be dealt out.
+    fn are_to_be_dealt(&self, other: &OneTable<'a>, dealing: Dealing) -> bool {
+        match dealing {
+            Dealing::Never => false,
+            Dealing::BothLarge => self.is_large() && other.is_large(),
+            Dealing::OneLarge => self.is_large() || other.is_large(),
+        }
     }
 
     // Whether many index lists lie in its first part.
@@ -159,5 +172,17 @@ impl<'a> OneTable<'a> {
         ensures value { IfOk result (λ rows. rows ≡ table_shown self.now) }
     {
         RowsInOrder::new(self.alloc, &self.parts)
+    }
+
+    /// The same, put in order by at most so many threads.
+    pub(crate) fn in_order_by<R: Threads + Sync>(
+        &self,
+        rt: &R,
+        threads: usize,
+    ) -> Result<RowsInOrder<'_, 'a>, NoMemory>
+        requires threads { 1 ≤ threads }
+        ensures value { IfOk result (λ rows. rows ≡ table_shown self.now) }
+    {
+        RowsInOrder::new_by(rt, threads, self.alloc, &self.parts)
     }
 }

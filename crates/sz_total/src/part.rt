@@ -134,6 +134,11 @@ impl<'a> Part<'a> {
         let _ = mem::replace(&mut self.arriving, lists);
     }
 
+    // How many wait.
+    pub(crate) fn waiting(&self) -> usize {
+        self.arriving.len()
+    }
+
     // Joins what waits. There is room for it.
     pub(crate) fn settle(&mut self, alloc: Global)
         requires may { MayJoin self.old }

@@ -11,7 +11,7 @@ ghost use Rattle.sz_total.specs.States.{declarations, emit_count, shown};
 ghost use Rattle.sz_total.specs.Totals.{IsNew, Gains, Joins};
 ghost use Rattle.sz_total.specs.Weights.{HaveTheirWeights};
 
-use crate::hands::{Alone, Hands, InThreads};
+use crate::hands::{Alone, Dealing, Hands, InThreads};
 use crate::in_order::RowsInOrder;
 use crate::indexed::TableRows;
 use crate::one_table::OneTable;
@@ -30,6 +30,7 @@ pub struct Total<'a> {
     tables: &'a TableDecls,
     count: u64,
     states: Vec<OneTable<'a>>,
+    early: bool,
 }
 
 impl<'a> Model for Total<'a> {
@@ -60,6 +61,7 @@ impl<'a> Total<'a> {
             tables,
             count: 0,
             states,
+            early: false,
         })
     }
 
@@ -84,18 +86,29 @@ impl<'a> Total<'a> {
         ensures ok { OnOk result (Joins declarations emit_count shown self.old other.entry self.new) }
         ensures err { IfErr result (λ back. (back ≡ other.entry) × (self.new ≡ self.old)) }
     {
-        self.merge_with(other, &Alone)
+        self.merge_with(other, &Alone { early: false })
     }
 
     /// Merges the other side as `merge` does, with the same promise. The side with more emits takes in the other's entries, which are
     /// moved over one by one; since tables forget the order of emits, nobody can see which side it was.
-    pub fn absorb(&mut self, other: Total<'a>) -> Result<(), Total<'a>>
+    pub fn absorb(&mut self, mut other: Total<'a>) -> Result<(), Total<'a>>
         requires same { other.tables ≡ self.old.tables }
         requires room { self.old.count + other.count ≤ 2 ^ 63 }
         ensures ok { OnOk result (Joins declarations emit_count shown self.old other.entry self.new) }
         ensures err { IfErr result (λ back. (back ≡ other.entry) × (self.new ≡ self.old)) }
     {
-        self.absorb_with(other, &Alone)
+        let early = self.early;
+        // the sides may change places
+        other.early = early;
+        self.absorb_with(other, &Alone { early })
+    }
+
+    /// Says whether `absorb` deals large tables out to parts, one other side after the other, so that `absorb_by` finds them dealt out.
+    /// New tables don't. What contracts see stays.
+    pub fn deal_early(&mut self, early: bool)
+        ensures same { self.new ≡ self.old }
+    {
+        self.early = early;
     }
 
     /// Absorbs the other side as `absorb` does, with the same promise, in at most so many threads. They are started for the tables that
@@ -145,7 +158,7 @@ impl<'a> Total<'a> {
         ensures ok { OnOk result (Joins declarations emit_count shown self.old other.entry self.new) }
         ensures err { IfErr result (λ back. (back ≡ other.entry) × (self.new ≡ self.old)) }
     {
-        if reserve_all(&mut self.states, &mut other.states, hands.are_many()).is_err() {
+        if reserve_all(&mut self.states, &mut other.states, hands.dealing()).is_err() {
             return Err(other);
         }
         self.count += other.count;
@@ -171,6 +184,21 @@ impl<'a> Total<'a> {
     {
         let states = &self.states[table];
         states.in_order()
+    }
+
+    /// The same, put in order by at most so many threads, which are started where there are thousands of index lists.
+    pub fn in_order_by<R: Threads + Sync>(
+        &self,
+        rt: &R,
+        threads: usize,
+        table: usize,
+    ) -> Result<RowsInOrder<'_, 'a>, NoMemory>
+        requires threads { 1 ≤ threads }
+        requires declared { table < length self.now.tables }
+        ensures value { IfOk result (λ rows. rows ≡ shown self.now table) }
+    {
+        let states = &self.states[table];
+        states.in_order_by(rt, threads)
     }
 
     /// How many emits were added. What the tables show comes from so many emits that fit them.
@@ -209,7 +237,7 @@ fn add_at<'a>(states: &mut Vec<OneTable<'a>>, emit: &Emit) -> Result<(), NoMemor
 fn reserve_all<'a>(
     states: &mut Vec<OneTable<'a>>,
     others: &mut Vec<OneTable<'a>>,
-    shared: bool,
+    dealing: Dealing,
 ) -> Result<(), NoMemory>
     requires matched { AreMatched states.old.items others.old.items }
     ensures ok { OnOk result (HaveRoomToMerge states.new.items others.new.items) }
@@ -217,7 +245,7 @@ fn reserve_all<'a>(
     ensures others { ChangeRoomAlone others.old.items others.new.items }
 {
     for at in 0..others.len() {
-        reserve_at(states, others, at, shared)?;
+        reserve_at(states, others, at, dealing)?;
     }
     Ok(())
 }
@@ -227,7 +255,7 @@ fn reserve_at<'a>(
     states: &mut Vec<OneTable<'a>>,
     others: &mut Vec<OneTable<'a>>,
     at: usize,
-    shared: bool,
+    dealing: Dealing,
 ) -> Result<(), NoMemory>
     requires matched { IsMatchedAt at states.old.items others.old.items }
     ensures ok { OnOk result (HasRoomAt at states.new.items others.new.items) }
@@ -236,7 +264,7 @@ fn reserve_at<'a>(
 {
     let table = &mut states[at];
     let other = &mut others[at];
-    table.reserve(other, shared)
+    table.reserve(other, dealing)
 }
 
 // Merges each table of the other side, for which there is room.
