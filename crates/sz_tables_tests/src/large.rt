@@ -214,21 +214,28 @@ fn text_alone(alloc: Global) -> Result<Vec<u8>, NoMemory> {
     text(alloc, &total, &tables)
 }
 
-// The text of the sides, joined by so many threads, with the others after them. The large ones are dealt out to parts where there are two
-// threads, and the small one is dealt out for them.
-fn text_joined<R: Threads + Sync>(
-    rt: &R,
-    alloc: Global,
-    threads: usize,
-) -> Result<Vec<u8>, NoMemory>
+// The text of the sides, joined by so many threads, with the others after them, which as many put in order. The large ones are dealt out to
+// parts where there are two threads, and the small one is dealt out for them.
+fn text_joined<R: Threads + Sync>(rt: &R, alloc: Global, threads: u32) -> Result<Vec<u8>, NoMemory>
     requires threads { 1 ≤ threads }
 {
     let tables = declarations(alloc)?;
     let large = counted(alloc, &tables, LARGE)?;
     let other = counted(alloc, &tables, OTHER)?;
     let small = counted(alloc, &tables, SMALL)?;
-    let both = absorbed_by(rt, threads, large, other)?;
-    let mut all = absorbed_by(rt, threads, small, both)?;
+    let both = absorbed_by(rt, threads as usize, large, other)?;
+    let mut all = absorbed_by(rt, threads as usize, small, both)?;
+    count_more(alloc, &mut all, &tables, LATER)?;
+    text_by(rt, alloc, &all, &tables, threads)
+}
+
+// The same by one thread, where the small side comes first and deals large tables out early.
+fn text_dealt_early(alloc: Global) -> Result<Vec<u8>, NoMemory> {
+    let tables = declarations(alloc)?;
+    let mut small = counted(alloc, &tables, SMALL)?;
+    small.deal_early(true);
+    let large = totals::absorbed(small, counted(alloc, &tables, LARGE)?)?;
+    let mut all = totals::absorbed(large, counted(alloc, &tables, OTHER)?)?;
     count_more(alloc, &mut all, &tables, LATER)?;
     text(alloc, &all, &tables)
 }
@@ -284,6 +291,8 @@ fn any_number_of_threads_makes_the_same_text(rt: HostRuntime) -> Result<(), Fail
     for fewer in 0..4u32 {
         let same = have_one_text(&rt, rt.alloc(), 4_999, fewer + 1)?;
         assert!(rt; same, "by {} threads", fewer + 1);
+        let few = have_one_text(&rt, rt.alloc(), 9, fewer + 1)?;
+        assert!(rt; few, "of few by {} threads", fewer + 1);
     }
     Ok(())
 }
@@ -292,7 +301,7 @@ fn any_number_of_threads_makes_the_same_text(rt: HostRuntime) -> Result<(), Fail
 fn any_number_of_threads_merges_the_same(rt: HostRuntime) -> Result<(), Fail> {
     let alone = text_alone(rt.alloc())?;
     assert!(rt; alone.len() > 100_000);
-    for fewer in 0..4usize {
+    for fewer in 0..4u32 {
         let joined = text_joined(&rt, rt.alloc(), fewer + 1)?;
         assert!(rt;
             joined.as_slice() == alone.as_slice(),
@@ -300,5 +309,13 @@ fn any_number_of_threads_merges_the_same(rt: HostRuntime) -> Result<(), Fail> {
             fewer + 1
         );
     }
+    Ok(())
+}
+
+#[test]
+fn tables_that_are_dealt_out_early_show_the_same(rt: HostRuntime) -> Result<(), Fail> {
+    let alone = text_alone(rt.alloc())?;
+    let early = text_dealt_early(rt.alloc())?;
+    assert!(rt; early.as_slice() == alone.as_slice());
     Ok(())
 }

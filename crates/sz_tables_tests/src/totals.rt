@@ -175,7 +175,7 @@ pub(crate) fn merged<'a>(mut first: Total<'a>, second: Total<'a>) -> Result<Tota
 }
 
 // The two totals joined, of which that with more emits takes in the other.
-fn absorbed<'a>(mut first: Total<'a>, second: Total<'a>) -> Result<Total<'a>, NoMemory>
+pub(crate) fn absorbed<'a>(mut first: Total<'a>, second: Total<'a>) -> Result<Total<'a>, NoMemory>
     requires same { second.tables ≡ first.tables }
     requires room { first.count + second.count ≤ 2 ^ 63 }
     ensures same { IfOk result (λ both. both.tables ≡ first.entry.tables) }
