@@ -6,6 +6,7 @@ use denote.Param.Send.{IsSend, IsSync, sendable, view_sync}
 use denote.Param.SendFields.{declared_send, declared_sync}
 use Rattle.std.proofs.Crossing.{crosses}
 use Rattle.sz_list.proofs.items.Items.TheSendSync as items
+use Rattle.sz_list.proofs.seen.SeenItems.TheSendSync as seen
 use Rattle.sz_types.proofs.table.TableKind.TheSendSync as kind
 use Rattle.sz_types.proofs.encoding.Encoding.TheSendSync as encoding
 use Rattle.sz_types.proofs.operator.BinOp.TheSendSync as bin_op
@@ -28,7 +29,7 @@ use Rattle.sz_value.specs.contracts.slots.Slots as Slots
 use Rattle.sz_instr.specs.contracts.code.Code as Code
 use Rattle.sz_gen_stmt.specs.contracts.compiled.Compiled as Compiled
 use Rattle.sz_attempt.specs.contracts.job.Job as Job
-use Rattle.sz_total.proofs.SendLemmas.{tables_sync, total_send, total_sync}
+use Rattle.sz_total.proofs.SendLemmas.{table_sync, total_send, total_sync}
 use Rattle.sz_workers.specs.contracts.first_faults.FirstFaults as FirstFaults
 use Rattle.sz_workers.specs.contracts.part.RoundPart as RoundPart
 
@@ -37,6 +38,8 @@ ruleset parts = (
   crosses,
   items.the_send,
   items.the_sync,
+  seen.the_send,
+  seen.the_sync,
   kind.the_sync,
   encoding.the_send,
   encoding.the_sync,
@@ -76,7 +79,7 @@ code_sync =
               (
                 search parts depth 30,
                 (
-                  tables_sync,
+                  search (parts, table_sync) depth 30,
                   (search parts depth 30, tt),
                 ),
               ),

@@ -131,11 +131,13 @@ impl<'a, N: RoundName> RoundPart<'a, N> {
     }
 }
 
-/// A lane that stands for no shards, of a round with this plan and a job with these declarations.
+/// A lane that stands for no shards, of a round with this plan and a job with these declarations. Its large tables are dealt out to parts as
+/// the parts of shards come, where other workers fill lanes at the same time: they are then all dealt out when they are poured together.
 pub(crate) fn empty_lane<'a, N: RoundName>(
     alloc: Global,
     plan: &Plan,
     decls: &'a TableDecls,
+    others: bool,
 ) -> Result<Lane<RoundPart<'a, N>>, NoMemory>
     requires job { IsJob N.job }
     requires round { IsRound N.round }
@@ -145,6 +147,7 @@ pub(crate) fn empty_lane<'a, N: RoundName>(
     ensures plans { IsPlan plan.now }
 {
     let shards = plan.shards();
-    let load: RoundPart<'a, N> = RoundPart::empty(alloc, plan, decls)?;
+    let mut load: RoundPart<'a, N> = RoundPart::empty(alloc, plan, decls)?;
+    load.total.deal_early(others);
     Lane::new(alloc, load, shards)
 }

@@ -100,19 +100,21 @@ fn run_all<'a, R: Threads + Sync, G: Gate + Sync, N: RoundName + Send + Sync>(
         IsLeft (λ s k. Dies N.job (shards_of N.round) s k) plan.now left.0.lanes.items left.1.items left.0.settled left.0.deaths) }
 {
     let copy = plan.copied(alloc)?;
-    let lanes = empty_lanes(alloc, plan, job.compiled.tables(), workers.div_ceil(2))?;
+    let count = workers.div_ceil(2);
+    let lanes = empty_lanes(alloc, plan, job.compiled.tables(), count, workers > 1)?;
     let (ledger, mut first) = Ledger::make(alloc, copy, lanes, workers + 1)?;
     let ready = ready_workers(alloc, job, round, &ledger, gate, &mut first, workers)?;
     let back = run_workers(rt, ready)?;
     close_all(alloc, ledger, first, back)
 }
 
-// So many lanes that stand for no shards.
+// So many lanes that stand for no shards, for one worker or also for others.
 fn empty_lanes<'a, N: RoundName>(
     alloc: Global,
     plan: &Plan,
     decls: &'a TableDecls,
     count: u32,
+    others: bool,
 ) -> Result<Vec<Lane<RoundPart<'a, N>>>, NoMemory>
     requires job { IsJob N.job }
     requires round { IsRound N.round }
@@ -123,7 +125,7 @@ fn empty_lanes<'a, N: RoundName>(
 {
     let mut lanes = Vec::new(alloc);
     for _made in 0..count {
-        let lane: Lane<RoundPart<'a, N>> = empty_lane(alloc, plan, decls)?;
+        let lane: Lane<RoundPart<'a, N>> = empty_lane(alloc, plan, decls, others)?;
         lanes.push(lane)?;
     }
     Ok(lanes)

@@ -45,10 +45,12 @@ pub fn work<'a, N: RoundName, G: Gate + Sync>(
         (λ s k. Dies N.job (shards_of N.round) s k) (λ s. Bad N.job (shards_of N.round) s) ledger.now.plan pass.old pass.new) }
 {
     pass.saw_a_legal_history();
+    // a part comes into a pocket only where another worker has the lane
     let mut pocket: Lane<RoundPart<'a, N>> = empty_lane(
         alloc,
         ledger.plan(),
         job.compiled.tables(),
+        true,
     )?;
     let mut maker: RoundMaker<'a, '_, G, N> = RoundMaker {
         alloc,
