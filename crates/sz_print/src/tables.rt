@@ -47,8 +47,8 @@ pub fn text<'a>(alloc: Global, total: &Total<'a>, tables: &TableDecls) -> Result
     text_of_rows(alloc, total, tables)
 }
 
-/// The same, made by so many threads where they can be started: the lines of a table of thousands of index lists are made in as many
-/// pieces. Values go as deep as the types of the program, and a thread has the stack that the system gives it, so a program with high
+/// The same, made by so many threads where they can be started: the index lists of a table that has thousands of them are put in order
+/// in as many pieces, and so are their lines made. Values go as deep as the types of the program, and a thread has the stack that the system gives it, so a program with high
 /// types is for one thread.
 pub fn text_by<'a, R: Threads + Sync>(
     rt: &R,
@@ -96,7 +96,7 @@ fn text_of_rows_by<'a, R: Threads + Sync>(
 {
     let mut text = Vec::new(alloc);
     for (number, table) in tables.as_slice().iter().enumerate() {
-        let rows = total.in_order(number)?;
+        let rows = total.in_order_by(rt, threads as usize, number)?;
         push_by(rt, alloc, table, &rows, threads, &mut text)?;
     }
     Ok(text)
