@@ -48,8 +48,8 @@ pub fn text<'a>(alloc: Global, total: &Total<'a>, tables: &TableDecls) -> Result
 }
 
 /// The same, made by so many threads where they can be started: the index lists of a table that has thousands of them are put in order
-/// in as many pieces, and so are their lines made. Values go as deep as the types of the program, and a thread has the stack that the system gives it, so a program with high
-/// types is for one thread.
+/// in as many pieces, and so are their lines made. Values go as deep as the types of the program, and a thread has the stack that the system
+/// gives it, so a program with high types is for one thread.
 pub fn text_by<'a, R: Threads + Sync>(
     rt: &R,
     alloc: Global,
