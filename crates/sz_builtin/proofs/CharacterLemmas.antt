@@ -1,17 +1,17 @@
 -- Texts that are cut between characters.
-use Rattle.std.proofs.Common.{◌≡◌, ℕ, ◌+◌, ◌-◌, ◌≤◌, nat_le, Bool, true, false, if◌then◌else◌, Some, None, subst, List, [], ◌∷◌, ◌++◌, length, take, drop, refl, sym, ap, ◌∙◌, arith}
-use Rattle.std.specs.Prelude.{slice_get, chars, encode_utf8_all}
+use Rattle.std.proofs.Common.{◌≡◌, ℕ, ℤ, ◌+◌, ◌-◌, ◌≤◌, nat_le, Bool, true, false, if◌then◌else◌, Option, Some, None, subst, List, [], ◌∷◌, ◌++◌, length, take, drop, refl, sym, ap, ◌∙◌, arith}
+use Rattle.std.specs.Prelude.{slice_get, chars, encode_utf8_all, IsUtf8}
 use Rattle.std.specs.Str.{IsCharBoundary}
 use Rattle.std.proofs.lemmas.List.{length-append, take_at, drop_at}
 use Rattle.std.proofs.lemmas.Str.{IsCharBoundary-at_seam}
-use Rattle.std.specs.Option.{option_map}
+use Rattle.std.specs.Option.{option_map, option_and_then}
 use Rattle.std.proofs.lemmas.List.{length-take-le}
-use Rattle.std.proofs.lemmas.Str.{chars-IsAscii, encodes-IsAscii}
-use Rattle.sz_value.specs.Data.{str}
+use Rattle.std.proofs.lemmas.Str.{chars-IsAscii, encodes-IsAscii, IsUtf8-from_ascii}
+use Rattle.sz_value.specs.Data.{Datum, str, bytes}
 use Rattle.sz_value.specs.Texts.{is_ascii}
 use Rattle.sz_value.proofs.ForCallers.{passes_ascii, ascii_part}
 use Rattle.sz_value.specs.Characters.{IsRestAfter}
-use Rattle.sz_builtin.specs.Places.{cut}
+use Rattle.sz_builtin.specs.Places.{slice, span, part, cut}
 
 -- what is after the front of a list, by the front's length
 pub get_after : {X : Type 0} (f xs : List X) → slice_get (f ++ xs) (length f) ≡ slice_get xs 0
@@ -76,3 +76,32 @@ ascii_part_is text p h =
     at : (b : Bool) → option_map str (if b then Some part else None) ≡ option_map (λ cs. str (encode_utf8_all cs)) (if b then Some part else None)
     at true = ap (λ cs. Some (str cs)) (sym same)
     at false = refl
+
+-- an ASCII text is one
+pub ascii_is_text : (text : List ℕ) → is_ascii text ≡ true → IsUtf8 text
+ascii_is_text text h = IsUtf8-from_ascii text (passes_ascii text h)
+
+-- a part of an ASCII text as a text, of what it is as bytes
+abbrev retold : Option Datum → Option Datum
+retold (Some (bytes part)) = Some (str part)
+retold _ = None
+
+text_slice_is : (text : List ℕ) (from to : ℤ) → is_ascii text ≡ true → slice (str text) from to ≡ retold (slice (bytes text) from to)
+text_slice_is text from to h = at (span from to)
+  where
+    cut_retold : (o : Option (List ℕ)) → option_map str o ≡ retold (option_map bytes o)
+    cut_retold None = refl
+    cut_retold (Some part) = refl
+
+    at : (o : Option (ℕ × ℕ)) → option_and_then (part (str text)) o ≡ retold (option_and_then (part (bytes text)) o)
+    at None = refl
+    at (Some p) = sym (ascii_part_is text p h) ∙ cut_retold (cut text p)
+
+-- the slice of an ASCII text is that of its bytes
+pub text_slice : (text : List ℕ) (from to : ℤ) (part : List ℕ) → is_ascii text ≡ true → slice (bytes text) from to ≡ Some (bytes part)
+    → slice (str text) from to ≡ Some (str part)
+text_slice text from to part h is = text_slice_is text from to h ∙ ap retold is
+
+-- and where there is none, there is none
+pub no_text_slice : (text : List ℕ) (from to : ℤ) → is_ascii text ≡ true → slice (bytes text) from to ≡ None → slice (str text) from to ≡ None
+no_text_slice text from to h is = text_slice_is text from to h ∙ ap retold is

@@ -4,4 +4,5 @@ pub mod Conversions
 pub mod Places
 pub mod Predeclared
 pub mod Types
+pub mod Letters
 pub mod Views

@@ -1,7 +1,9 @@
 //! Texts by characters.
 ghost use Rattle.std.specs.Prelude.{◌≡◌, ◌+◌, ◌≤◌, ◌<◌, ◌^◌, length, take, drop, slice_get, chars, encode_utf8_all, IfSome, IfNone};
 ghost use Rattle.std.specs.Str.{IsCharBoundary};
+ghost use Rattle.sz_builtin.specs.Letters.{letters_of};
 
+use crate::letters::Letters;
 use sz_value::{Text, rest_after};
 
 /// The character at a place, or none where the text ends before it.
@@ -24,9 +26,21 @@ pub fn characters_from(text: &Text, skip: u64, count: u64) -> Option<&str>
     Some(&tail[..tail.len() - rest.len()])
 }
 
-/// The number of characters. Those of an ASCII text are its bytes, and aren't counted.
+/// The number of characters.
 #[tactic(auto, using(crate::proofs::CharacterLemmas::ascii_length))]
-pub fn character_count(text: &Text) -> usize
+pub fn letters_count(text: &Letters<'_>) -> usize
+    ensures value { result ≡ length (chars (letters_of text.now)) }
+    ensures small { result < 2 ^ 63 }
+{
+    match text {
+        Letters::Kept(text) => character_count(text),
+        Letters::Ascii(text) => text.octets.len(),
+    }
+}
+
+// The number of characters. Those of an ASCII text are its bytes, and aren't counted.
+#[tactic(auto, using(crate::proofs::CharacterLemmas::ascii_length))]
+fn character_count(text: &Text) -> usize
     ensures value { result ≡ length (chars text.now) }
     ensures small { result < 2 ^ 63 }
 {
@@ -39,15 +53,14 @@ pub fn character_count(text: &Text) -> usize
 
 /// The number of characters before a place of the text's bytes, which in an ASCII text is the place itself.
 #[tactic(auto, using(crate::proofs::CharacterLemmas::ascii_before))]
-pub fn characters_before(text: &Text, at: usize) -> usize
-    requires cut { IsCharBoundary text.now at }
-    ensures value { result ≡ length (chars (take at text.now)) }
+pub fn characters_before(text: &Letters<'_>, at: usize) -> usize
+    requires cut { IsCharBoundary (letters_of text.now) at }
+    ensures value { result ≡ length (chars (take at (letters_of text.now))) }
     ensures small { result < 2 ^ 63 }
 {
-    let chars = text.as_str();
-    if text.is_ascii() && at <= chars.as_bytes().len() {
+    if text.is_ascii() && at <= text.octets().len() {
         at
     } else {
-        sz_value::character_count(&chars[..at])
+        sz_value::character_count(&text.as_str()[..at])
     }
 }

@@ -72,7 +72,7 @@ fn as_int(v: &View<'_>) -> Slot
         Kind::Bool(truth) => Slot::Defined(Value::Int(if truth { 1 } else { 0 })),
         Kind::Int(number) => Slot::Defined(Value::Int(number)),
         Kind::Time(number) => Slot::Defined(Value::Int(number)),
-        Kind::Str(text) => spelled(text.as_str().as_bytes()),
+        Kind::Str(text) => spelled(text.octets()),
         Kind::Bytes(octets) => spelled(octets),
         _ => Slot::Undefined,
     }
@@ -106,7 +106,7 @@ fn as_str(alloc: Global, v: &View<'_>) -> Result<Slot, NoMemory>
     match v.kind() {
         Kind::Bool(truth) => truth_text(alloc, truth),
         Kind::Int(number) => decimal_text(alloc, number),
-        Kind::Str(text) => Ok(Slot::Defined(Value::Str(text.copy(alloc)?))),
+        Kind::Str(text) => Ok(Slot::Defined(Value::Str(text.owned(alloc)?))),
         Kind::Bytes(octets) => text_of(alloc, octets),
         _ => Ok(Slot::Undefined),
     }
@@ -156,7 +156,7 @@ fn as_bytes(alloc: Global, v: &View<'_>) -> Result<Slot, NoMemory>
     match v.kind() {
         Kind::Str(text) => Ok(Slot::Defined(Value::Bytes(Octets::from_slice(
             alloc,
-            text.as_str().as_bytes(),
+            text.octets(),
         )?))),
         Kind::Bytes(octets) => Ok(Slot::Defined(Value::Bytes(Octets::from_slice(alloc, octets)?))),
         _ => Ok(Slot::Undefined),

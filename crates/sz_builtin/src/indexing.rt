@@ -3,9 +3,11 @@ ghost use Rattle.std.specs.Prelude.{◌≡◌, IfOk, map, chars, option_map};
 ghost use Rattle.sz_value.specs.Seen.{seen, seen_slot};
 ghost use Rattle.sz_value.specs.Maps.{value_at};
 ghost use Rattle.sz_builtin.specs.Places.{index, at_place, code};
+ghost use Rattle.sz_builtin.specs.Letters.{letters_of};
 ghost use Rattle.sz_builtin.specs.Views.{seen_view};
 
 use crate::characters::character_at;
+use crate::letters::Letters;
 use crate::view::{Kind, View};
 use std::alloc::Global;
 use sz_value::{NoMemory, Pairs, Slot, Text, Value, copy};
@@ -61,7 +63,18 @@ fn value_of(alloc: Global, pairs: &Pairs, key: &View<'_>) -> Result<Slot, NoMemo
 
 // The code of the character at a place, which in an ASCII text is the byte there.
 #[tactic(auto, using(crate::proofs::CharacterLemmas::ascii_characters))]
-fn code_at(text: &Text, place: i64) -> Slot
+fn code_at(text: Letters<'_>, place: i64) -> Slot
+    ensures value { seen_slot result ≡ option_map code (at_place (chars (letters_of text.entry)) place) }
+{
+    match text {
+        Letters::Kept(text) => code_in(text, place),
+        Letters::Ascii(text) => byte(text.octets, place),
+    }
+}
+
+// The same of a text that a value has.
+#[tactic(auto, using(crate::proofs::CharacterLemmas::ascii_characters))]
+fn code_in(text: &Text, place: i64) -> Slot
     ensures value { seen_slot result ≡ option_map code (at_place (chars text.now) place) }
 {
     if text.is_ascii() {

@@ -8,7 +8,7 @@ ghost use Rattle.sz_value.specs.declared.slots.Slot.TheVariants.{Defined};
 ghost use Rattle.sz_builtin.specs.Predeclared.{len, keys, haskey};
 ghost use Rattle.sz_builtin.specs.Views.{seen_view};
 
-use crate::characters::character_count;
+use crate::characters::letters_count;
 use crate::view::{Kind, View};
 use std::alloc::Global;
 use sz_value::{List, NoMemory, Pairs, Slot, Value, copy};
@@ -19,7 +19,7 @@ pub fn len(value: &View<'_>) -> Slot
     ensures value { seen_slot result ≡ len (seen_view value.now) }
 {
     match value.kind() {
-        Kind::Str(text) => count(character_count(text)),
+        Kind::Str(text) => count(letters_count(&text)),
         Kind::Bytes(octets) => count(octets.len()),
         Kind::Array(list) => count(list_len(list)),
         Kind::Map(pairs) => count(pairs.len()),

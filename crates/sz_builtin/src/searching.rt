@@ -3,12 +3,14 @@ ghost use Rattle.std.specs.Prelude.{◌≡◌, ◌<◌, ◌^◌, IfSome, Some, c
 ghost use Rattle.sz_value.specs.Data.{bytes, int};
 ghost use Rattle.sz_value.specs.Seen.{seen_slot};
 ghost use Rattle.sz_builtin.specs.Predeclared.{strfind, first_place, place};
+ghost use Rattle.sz_builtin.specs.Letters.{letters_of};
 ghost use Rattle.sz_builtin.specs.Views.{seen_view};
 
 use crate::characters::characters_before;
+use crate::letters::Letters;
 use crate::view::{Kind, View};
 use memchr::{memchr, memmem};
-use sz_value::{Slot, Text, Value};
+use sz_value::{Slot, Value};
 
 /// The first place of a string or a byte string in another, counted from 0, in characters or in bytes, or -1.
 pub fn strfind(needle: &View<'_>, hay: &View<'_>) -> Slot
@@ -16,7 +18,7 @@ pub fn strfind(needle: &View<'_>, hay: &View<'_>) -> Slot
 {
     match (needle.kind(), hay.kind()) {
         (Kind::Str(needle), Kind::Str(hay)) => {
-            Slot::Defined(Value::Int(place(text_place(needle, hay))))
+            Slot::Defined(Value::Int(place(text_place(&needle, &hay))))
         }
         (Kind::Bytes(needle), Kind::Bytes(hay)) => {
             Slot::Defined(Value::Int(place_of_bytes(needle, hay)))
@@ -55,11 +57,11 @@ fn byte_place(needle: &[u8], hay: &[u8]) -> Option<usize>
 }
 
 // The first place of a text in another, counted in characters.
-fn text_place(needle: &Text, hay: &Text) -> Option<usize>
-    ensures value { result ≡ first_place (chars needle.now) (chars hay.now) }
+fn text_place(needle: &Letters<'_>, hay: &Letters<'_>) -> Option<usize>
+    ensures value { result ≡ first_place (chars (letters_of needle.now)) (chars (letters_of hay.now)) }
     ensures small { IfSome result (λ at. at < 2 ^ 63) }
 {
-    match memmem::find(hay.as_str().as_bytes(), needle.as_str().as_bytes()) {
+    match memmem::find(hay.octets(), needle.octets()) {
         Some(at) => Some(characters_before(hay, at)),
         None => None,
     }

@@ -4,9 +4,12 @@ ghost use Rattle.sz_value.specs.Data.{str, bytes, array, data_of};
 ghost use Rattle.sz_value.specs.Seen.{seen, seen_slot};
 ghost use Rattle.sz_value.specs.Texts.{is_ascii};
 ghost use Rattle.sz_builtin.specs.Places.{slice, part, span, cut};
+ghost use Rattle.sz_builtin.specs.Letters.{letters_of};
 ghost use Rattle.sz_builtin.specs.Views.{seen_view};
 
+use crate::ascii::Ascii;
 use crate::characters::characters_from;
+use crate::letters::Letters;
 use crate::view::{Kind, View};
 use std::alloc::Global;
 use sz_value::{List, NoMemory, Octets, Slot, Text, Value, copy};
@@ -49,6 +52,20 @@ pub fn bytes_between(octets: &[u8], from: i64, to: i64) -> Option<(usize, usize)
     }
 }
 
+/// The same of a text of ASCII, each of whose characters is a byte.
+#[tactic(auto, using(crate::proofs::CharacterLemmas::text_slice, crate::proofs::CharacterLemmas::no_text_slice))]
+pub fn text_between(text: &Ascii<'_>, from: i64, to: i64) -> Option<(usize, usize)>
+    ensures some { IfSome result (λ p.
+        slice (str text.now.octets.now) from to ≡ Some (str (take p.1 (drop p.0 text.now.octets.now)))) }
+    ensures within { IfSome result (λ p. p.0 + p.1 ≤ length text.now.octets.now) }
+    ensures none { IfNone result (slice (str text.now.octets.now) from to ≡ None) }
+{
+    match bytes_between(text.octets, from, to) {
+        Some((skip, count)) => Some((skip, count)),
+        None => None,
+    }
+}
+
 // How many elements the slice passes over and how many it takes.
 fn span(from: i64, to: i64) -> Option<(u64, u64)>
     ensures value { result ≡ span from to }
@@ -66,10 +83,38 @@ fn part(alloc: Global, base: &View<'_>, skip: u64, count: u64) -> Result<Slot, N
     ensures value { IfOk result (λ slot. seen_slot slot ≡ part (seen_view base.now) (skip, count)) }
 {
     match base.kind() {
-        Kind::Str(text) => part_of_text(alloc, text, skip, count),
+        Kind::Str(text) => part_of_letters(alloc, text, skip, count),
         Kind::Bytes(octets) => part_of_bytes(alloc, octets, skip, count),
         Kind::Array(list) => part_of_list(alloc, list.as_slice(), skip, count),
         _ => Ok(Slot::Undefined),
+    }
+}
+
+// Characters of a text.
+#[tactic(auto, using(crate::proofs::CharacterLemmas::ascii_part_is))]
+fn part_of_letters(
+    alloc: Global,
+    text: Letters<'_>,
+    skip: u64,
+    count: u64,
+) -> Result<Slot, NoMemory>
+    ensures value { IfOk result (λ slot. seen_slot slot
+        ≡ option_map (λ cs. str (encode_utf8_all cs)) (cut (chars (letters_of text.entry)) (skip, count))) }
+{
+    match text {
+        Letters::Kept(text) => part_of_text(alloc, text, skip, count),
+        Letters::Ascii(text) => part_of_ascii(alloc, &text, skip, count),
+    }
+}
+
+// Bytes of an ASCII text that lies elsewhere.
+#[tactic(auto, using(sz_value::proofs::ForCallers::ascii_part))]
+fn part_of_ascii(alloc: Global, text: &Ascii<'_>, skip: u64, count: u64) -> Result<Slot, NoMemory>
+    ensures value { IfOk result (λ slot. seen_slot slot ≡ option_map str (cut text.now.octets.now (skip, count))) }
+{
+    match cut(text.octets, skip, count) {
+        Some(octets) => Ok(Slot::Defined(Value::Str(Ascii { octets }.owned(alloc)?))),
+        None => Ok(Slot::Undefined),
     }
 }
 

@@ -80,12 +80,13 @@ fn difference(a: &View<'_>, b: &View<'_>) -> Slot
     }
 }
 
-// How two values stand in the order of values. Bytes are compared where they lie.
+// How two values stand in the order of values. Bytes and texts are compared where they lie.
 fn compared(alloc: Global, a: &View<'_>, b: &View<'_>) -> Result<Ordering, NoMemory>
     ensures value { IfOk result (λ found. found ≡ compare (seen_view a.now) (seen_view b.now)) }
 {
     match (a.kind(), b.kind()) {
         (Kind::Bytes(a), Kind::Bytes(b)) => Ok(a.cmp(b)),
+        (Kind::Str(a), Kind::Str(b)) => Ok(a.octets().cmp(b.octets())),
         _ => ordered(alloc, a, b),
     }
 }

@@ -3,16 +3,19 @@ ghost use Rattle.std.specs.Prelude.{◌≡◌, IfOk};
 ghost use Rattle.sz_value.specs.Seen.{seen};
 ghost use Rattle.sz_builtin.specs.Views.{seen_view, seen_kind, seen_lent};
 
+use crate::ascii::Ascii;
+use crate::letters::Letters;
 use std::alloc::Global;
-use sz_value::{List, NoMemory, Octets, Pairs, Text, Value, copy};
+use sz_value::{List, NoMemory, Octets, Pairs, Value, copy};
 
-/// A value that is looked at where it stands: one that takes no memory, the bytes of a byte string, wherever they lie, or any
-/// value.
+/// A value that is looked at where it stands: one that takes no memory, a text of ASCII or the bytes of a byte string, wherever they
+/// lie, or any value.
 #[derive(Clone, Copy)]
 pub enum View<'a> {
     Bool(bool),
     Int(i64),
     Time(i64),
+    Ascii(Ascii<'a>),
     Bytes(&'a [u8]),
     Whole(&'a Value),
 }
@@ -23,7 +26,7 @@ pub enum Kind<'a> {
     Bool(bool),
     Int(i64),
     Time(i64),
-    Str(&'a Text),
+    Str(Letters<'a>),
     Bytes(&'a [u8]),
     Array(&'a List),
     Tuple(&'a List),
@@ -54,6 +57,7 @@ impl View<'_> {
             View::Bool(truth) => Kind::Bool(*truth),
             View::Int(number) => Kind::Int(*number),
             View::Time(number) => Kind::Time(*number),
+            View::Ascii(text) => Kind::Str(Letters::Ascii(*text)),
             View::Bytes(octets) => Kind::Bytes(octets),
             View::Whole(value) => kind_of(value),
         }
@@ -67,6 +71,7 @@ impl View<'_> {
             View::Bool(truth) => Ok(Value::Bool(*truth)),
             View::Int(number) => Ok(Value::Int(*number)),
             View::Time(number) => Ok(Value::Time(*number)),
+            View::Ascii(text) => Ok(Value::Str(text.owned(alloc)?)),
             View::Bytes(octets) => Ok(Value::Bytes(Octets::from_slice(alloc, octets)?)),
             View::Whole(value) => copy(alloc, value),
         }
@@ -91,7 +96,7 @@ fn kind_of(value: &Value) -> Kind<'_>
         Value::Bool(truth) => Kind::Bool(*truth),
         Value::Int(number) => Kind::Int(*number),
         Value::Time(number) => Kind::Time(*number),
-        Value::Str(text) => Kind::Str(text),
+        Value::Str(text) => Kind::Str(Letters::Kept(text)),
         Value::Bytes(octets) => Kind::Bytes(octets.as_slice()),
         Value::Array(list) => Kind::Array(list),
         Value::Tuple(list) => Kind::Tuple(list),

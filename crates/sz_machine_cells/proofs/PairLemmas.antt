@@ -122,6 +122,7 @@ abbrev as_value : View → Value
 as_value (views.Bool b) = values.Bool b
 as_value (views.Int n) = values.Int n
 as_value (views.Time n) = values.Time n
+as_value (views.Ascii text) = values.Str text.octets.now
 as_value (views.Bytes octets) = values.Bytes octets.now
 as_value (views.Whole value) = value.now
 
@@ -132,6 +133,7 @@ value_seen : (v : View) → seen (as_value v) ≡ seen_view v
 value_seen (views.Bool b) = refl
 value_seen (views.Int n) = refl
 value_seen (views.Time n) = refl
+value_seen (views.Ascii text) = refl
 value_seen (views.Bytes octets) = refl
 value_seen (views.Whole value) = refl
 

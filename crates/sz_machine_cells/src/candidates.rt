@@ -1,5 +1,5 @@
 //! Candidate lists of quantified variables.
-ghost use Rattle.std.specs.Prelude.{◌≡◌, ◌∷◌, [], ◌<◌, ◌^◌, ◌==◌, length, chars, IfOk, IfSome, IfNone, OnErr, Some};
+ghost use Rattle.std.specs.Prelude.{◌≡◌, ◌∷◌, [], ◌<◌, ◌^◌, ◌==◌, length, IfOk, IfSome, IfNone, OnErr, Some};
 ghost use Rattle.sz_value.specs.Seen.{seen};
 ghost use Rattle.sz_builtin.specs.Views.{seen_view};
 ghost use Rattle.sz_world_rules.specs.Candidates.{candidates};
@@ -9,8 +9,8 @@ use crate::cell::Cell;
 use crate::map_keys::MapKeys;
 use std::alloc::Global;
 use std::marker::Model;
-use sz_builtin::{Kind, View};
-use sz_value::{List, NoMemory, Text, Value};
+use sz_builtin::{Kind, View, letters_count};
+use sz_value::{List, NoMemory, Value};
 
 /// The candidates that are left: whole numbers up to a bound, or keys. A map whose keys they are is shared as it was at the start, and
 /// a key is copied when it is asked for.
@@ -72,7 +72,7 @@ impl<'a> Candidates<'a> {
     {
         match view.kind() {
             Kind::Array(list) => Ok(numbers(slice, list_len(list))),
-            Kind::Str(text) => Ok(numbers(slice, characters(text))),
+            Kind::Str(text) => Ok(numbers(slice, letters_count(&text))),
             Kind::Bytes(contents) => Ok(numbers(slice, contents.len())),
             Kind::Map(_) if !slice => Ok(Candidates {
                 left: Left::KeysOf(MapKeys::of(base)?),
@@ -154,17 +154,4 @@ fn list_len(list: &List) -> usize
     ensures small { result < 2 ^ 63 }
 {
     list.as_slice().len()
-}
-
-// The number of characters. Those of an ASCII text are its bytes, and aren't counted.
-#[tactic(auto, using(sz_builtin::proofs::CharacterLemmas::ascii_length))]
-fn characters(text: &Text) -> usize
-    ensures value { result ≡ length (chars text.now) }
-    ensures small { result < 2 ^ 63 }
-{
-    if text.is_ascii() {
-        text.as_str().as_bytes().len()
-    } else {
-        text.character_count()
-    }
 }

@@ -1,6 +1,6 @@
 //! Maps of operands, which are weighed before anything is copied.
 ghost use Rattle.std.specs.Prelude.{◌≡◌, ◌+◌, ◌<◌, ◌≤◌, [], nat_le, reverse, IfOk, IfSome, IfNone};
-ghost use Rattle.sz_value.specs.Data.{mapping, entries_of, bytes};
+ghost use Rattle.sz_value.specs.Data.{mapping, entries_of, bytes, str};
 ghost use Rattle.sz_value.specs.Order.{compare, KeysRise};
 ghost use Rattle.sz_value.specs.Seen.{seen};
 ghost use Rattle.sz_value.specs.Maps.{with_pairs};
@@ -150,6 +150,7 @@ fn order_of_views(a: &View<'_>, b: &View<'_>) -> Ordering
         View::Bool(truth) => order_to(&Value::Bool(*truth), b),
         View::Int(number) => order_to(&Value::Int(*number), b),
         View::Time(number) => order_to(&Value::Time(*number), b),
+        View::Ascii(text) => order_of_text(text.octets, b),
         View::Bytes(octets) => order_of_bytes(octets, b),
         View::Whole(value) => order_to(value, b),
     }
@@ -163,6 +164,7 @@ fn order_to(a: &Value, b: &View<'_>) -> Ordering
         View::Bool(truth) => order(a, &Value::Bool(*truth)),
         View::Int(number) => order(a, &Value::Int(*number)),
         View::Time(number) => order(a, &Value::Time(*number)),
+        View::Ascii(text) => order_to_text(a, text.octets),
         View::Bytes(octets) => order_to_bytes(a, octets),
         View::Whole(value) => order(a, value),
     }
@@ -174,7 +176,7 @@ fn order_of_bytes(octets: &[u8], b: &View<'_>) -> Ordering
     ensures value { result ≡ compare (bytes octets.now) (seen_view b.now) }
 {
     match b {
-        View::Bool(_) | View::Int(_) | View::Time(_) => Ordering::Greater,
+        View::Bool(_) | View::Int(_) | View::Time(_) | View::Ascii(_) => Ordering::Greater,
         View::Bytes(others) => octets.cmp(others),
         View::Whole(value) => order_to_bytes(value, octets).reverse(),
     }
@@ -188,5 +190,29 @@ fn order_to_bytes(a: &Value, octets: &[u8]) -> Ordering
         Value::Bool(_) | Value::Int(_) | Value::Time(_) | Value::Str(_) => Ordering::Less,
         Value::Bytes(own) => own.as_slice().cmp(octets),
         Value::Array(_) | Value::Tuple(_) | Value::Map(_) => Ordering::Greater,
+    }
+}
+
+// The same of a text of ASCII and another value.
+#[tactic(auto, using(crate::proofs::PairLemmas::turned))]
+fn order_of_text(text: &[u8], b: &View<'_>) -> Ordering
+    ensures value { result ≡ compare (str text.now) (seen_view b.now) }
+{
+    match b {
+        View::Bool(_) | View::Int(_) | View::Time(_) => Ordering::Greater,
+        View::Ascii(other) => text.cmp(other.octets),
+        View::Bytes(_) => Ordering::Less,
+        View::Whole(value) => order_to_text(value, text).reverse(),
+    }
+}
+
+// The same of a value and a text of ASCII.
+fn order_to_text(a: &Value, text: &[u8]) -> Ordering
+    ensures value { result ≡ compare (seen a.now) (str text.now) }
+{
+    match a {
+        Value::Bool(_) | Value::Int(_) | Value::Time(_) => Ordering::Less,
+        Value::Str(own) => own.as_str().as_bytes().cmp(text),
+        Value::Bytes(_) | Value::Array(_) | Value::Tuple(_) | Value::Map(_) => Ordering::Greater,
     }
 }

@@ -2,7 +2,7 @@
 ghost use Rattle.std.specs.Prelude.{◌≡◌, Some};
 ghost use Rattle.sz_types.specs.Data.{FieldShapes, str, bytes, proto};
 ghost use Rattle.sz_types.specs.Seen.{seen as seen_type};
-ghost use Rattle.sz_value.specs.Data.{bytes as octets};
+ghost use Rattle.sz_value.specs.Data.{bytes as octets, str as letters};
 ghost use Rattle.sz_value.specs.Weight.{weight_of};
 ghost use Rattle.sz_builtin.specs.Views.{seen_view};
 ghost use Rattle.sz_world_rules.specs.Ticks.{result_weight, sum_weight, binary_weight, builtin_weight, conversion_weight};
@@ -46,9 +46,18 @@ pub(crate) fn view_weight(view: &View<'_>) -> u64
 {
     match view {
         View::Bool(_) | View::Int(_) | View::Time(_) => 1,
+        View::Ascii(text) => text_weight(text.octets),
         View::Bytes(contents) => bytes_weight(contents),
         View::Whole(value) => weight(value),
     }
+}
+
+// What a text weighs.
+#[inline(always)]
+fn text_weight(text: &[u8]) -> u64
+    ensures value { result ≡ weight_of (letters text.now) }
+{
+    (text.len() as u64).saturating_add(1)
 }
 
 // What bytes weigh.

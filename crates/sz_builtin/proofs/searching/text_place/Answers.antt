@@ -1,6 +1,7 @@
 -- A text stands in another between characters.
 use Rattle.std.proofs.Common.{◌≡◌, ◌∙◌, Option, Some, None, List, ℕ, ap, subst}
 use Rattle.memchr.specs.Find.{FindsNeedle}
+use Rattle.sz_builtin.specs.Letters.{letters_of}
 use Rattle.sz_builtin.proofs.PlaceLemmas.{text_place_is, cut_at_place, bytes_first}
 use Rattle.sz_builtin.proofs.searching.text_place.Goals as goal
 
@@ -12,26 +13,26 @@ in_texts {hay} {needle} {hay_bytes} {needle_bytes} found same same_needle finds 
 
 pub characters_before-requires : goal.characters_before-requires
 characters_before-requires c =
-    let hay = c.args.hay.now in
-    let needle = c.args.needle.now in
+    let hay = letters_of c.args.hay.now in
+    let needle = letters_of c.args.needle.now in
     let at = c.in-Some.at in
     let found : FindsNeedle hay needle 0 (Some at) =
-    in_texts (Some at) (c.as_bytes.ensures.value ∙ c.as_str.ensures.value) (c.as_bytes-2.ensures.value ∙ c.as_str-2.ensures.value) c.in-Some.ensures in
-    record { cut = cut_at_place hay needle at c.as_str.ensures.utf8 c.as_str-2.ensures.utf8 (bytes_first hay needle (Some at) found) }
+    in_texts (Some at) c.octets.ensures.value c.octets-2.ensures.value c.in-Some.ensures in
+    record { cut = cut_at_place hay needle at c.octets.ensures.utf8 c.octets-2.ensures.utf8 (bytes_first hay needle (Some at) found) }
 
 pub returns-in-Some-clause-value : goal.returns-in-Some-clause-value
 returns-in-Some-clause-value c =
-    let hay = c.args.hay.now in
-    let needle = c.args.needle.now in
+    let hay = letters_of c.args.hay.now in
+    let needle = letters_of c.args.needle.now in
     let at = c.in-Some.at in
     let found : FindsNeedle hay needle 0 (Some at) =
-    in_texts (Some at) (c.as_bytes.ensures.value ∙ c.as_str.ensures.value) (c.as_bytes-2.ensures.value ∙ c.as_str-2.ensures.value) c.in-Some.ensures in
-    ap Some c.characters_before.ensures.value ∙ text_place_is hay needle (Some at) c.as_str.ensures.utf8 c.as_str-2.ensures.utf8 found
+    in_texts (Some at) c.octets.ensures.value c.octets-2.ensures.value c.in-Some.ensures in
+    ap Some c.characters_before.ensures.value ∙ text_place_is hay needle (Some at) c.octets.ensures.utf8 c.octets-2.ensures.utf8 found
 
 pub returns-in-None-clause-value : goal.returns-in-None-clause-value
 returns-in-None-clause-value c =
-    let hay = c.args.hay.now in
-    let needle = c.args.needle.now in
+    let hay = letters_of c.args.hay.now in
+    let needle = letters_of c.args.needle.now in
     let found : FindsNeedle hay needle 0 None =
-    in_texts None (c.as_bytes.ensures.value ∙ c.as_str.ensures.value) (c.as_bytes-2.ensures.value ∙ c.as_str-2.ensures.value) c.in-None.ensures in
-    text_place_is hay needle None c.as_str.ensures.utf8 c.as_str-2.ensures.utf8 found
+    in_texts None c.octets.ensures.value c.octets-2.ensures.value c.in-None.ensures in
+    text_place_is hay needle None c.octets.ensures.utf8 c.octets-2.ensures.utf8 found
