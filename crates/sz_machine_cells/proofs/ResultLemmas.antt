@@ -1,7 +1,9 @@
 -- Parts whose bounds aren't there, parts of parts, and parts that lie below others.
-use Rattle.std.proofs.Common.{◌≡◌, ◌∙◌, ◌+◌, ◌-◌, ◌<◌, ◌≤◌, ℕ, ℤ, List, [], ◌∷◌, Some, None, length, take, drop, reverse, set, get_or, refl, sym, ap, arith}
+use Rattle.std.proofs.Common.{◌≡◌, ◌∙◌, ◌+◌, ◌-◌, ◌<◌, ◌≤◌, ℕ, ℤ, List, [], ◌∷◌, Some, None, true, length, take, drop, reverse, set, get_or, refl, sym, ap, arith}
 use Rattle.std.proofs.lemmas.List.{length-take, drop-take, take-take, drop-drop, drop_all, take_all}
 use Rattle.sz_value.specs.Data.{int}
+use Rattle.sz_value.specs.Texts.{is_ascii}
+use Rattle.sz_value.proofs.ForCallers.{ascii_part}
 use Rattle.sz_world_rules.specs.Slots.{Slot}
 use Rattle.sz_world_rules.specs.Operations.{slice_of}
 use Rattle.sz_world_rules.specs.Ticks.{result_weight}
@@ -29,6 +31,12 @@ part_in_part xs before count more few h =
     let all : take count rest ≡ take (more + (count - more)) rest = ap (λ n. take n rest) (omega (arith, long, h)) in
     let cut : drop more (take count rest) ≡ take (count - more) (drop more rest) = ap (drop more) all ∙ drop-take more (count - more) rest in
     ap (take few) cut ∙ take-take few (count - more) (drop more rest) (omega (arith, long, h)) ∙ ap (take few) (drop-drop more before xs)
+
+-- and it is of ASCII where that part is
+pub ascii_in_part : (xs : List ℕ) (before count more few : ℕ) → more + few ≤ length (take count (drop before xs))
+    → is_ascii (take count (drop before xs)) ≡ true → is_ascii (take few (drop (before + more) xs)) ≡ true
+ascii_in_part xs before count more few h ascii =
+    ap is_ascii (sym (part_in_part xs before count more few h)) ∙ ascii_part (take count (drop before xs)) more few ascii
 
 -- after the end there is nothing
 pub nothing_after : (xs : List ℕ) (n : ℕ) → length xs < n → drop n xs ≡ []

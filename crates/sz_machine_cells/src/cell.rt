@@ -10,13 +10,13 @@ use crate::inside::{Inside, view_of_nth};
 use std::alloc::Global;
 use std::marker::Model;
 use std::rc::Rc;
-use sz_builtin::{Kind, View};
+use sz_builtin::{Ascii, Kind, View};
 use sz_value::{NoMemory, Slot, Value, copy};
 
 /// An operand or a local, in 16 bytes. Numbers, times and truth values lie in it and take no memory. A value that owns memory
 /// is shared by the cells that hold it, so a copy of a cell copies no value; or it stays with its owner, who outlives the cell. A part
 /// of a value is told by its places in that value, so it is read where it stands. Bytes may lie in a buffer that cells share, each of
-/// which has its part of it, so a part of them takes no memory.
+/// which has its part of it, so a part of them takes no memory; nor does it as a text, where all of its bytes are ASCII.
 ///
 /// Contracts see the slot that it is: plain data, or none where it is undefined.
 #[derive(Drop)]
@@ -42,10 +42,12 @@ pub enum Form<'a> {
     Buffer(Rc<Vec<u8>>),
     /// So many bytes of a buffer, after so many others. Their number stands first, so that a cell has 16 bytes.
     Part(u16, u32, Rc<Vec<u8>>),
+    /// Such a part as a text. All of its bytes are ASCII.
+    Text(u16, u32, Rc<Vec<u8>>),
 }
 
 impl<'a> Model for Cell<'a> {
-    ghost use Rattle.std.specs.Prelude.{Option};
+    ghost use Rattle.std.specs.Prelude.{◌≡◌, Option, true};
     ghost use Rattle.std.specs.Coded.{coded_option};
     ghost use Rattle.sz_value.specs.Data.{Datum};
     ghost use Rattle.sz_value.specs.Code.{datum_code};
@@ -54,9 +56,11 @@ impl<'a> Model for Cell<'a> {
 
     ghost coded = { coded_option datum_code };
 
-    ghost use Rattle.sz_machine_cells.specs.Cells.{slot_of};
+    ghost use Rattle.sz_machine_cells.specs.Cells.{slot_of, has_ascii};
 
     ghost view = { λ cell. slot_of cell.form };
+
+    ghost invariant = { λ cell. has_ascii cell.form ≡ true };
 }
 
 impl<'a> Cell<'a> {
@@ -229,7 +233,8 @@ impl<'a> Cell<'a> {
             | Form::Int(_)
             | Form::Time(_)
             | Form::Buffer(_)
-            | Form::Part(_, _, _) => None,
+            | Form::Part(_, _, _)
+            | Form::Text(_, _, _) => None,
             _ => self.truth_by_look(),
         }
     }
@@ -285,6 +290,9 @@ impl<'a> Cell<'a> {
             Form::Part(count, before, buffer) => {
                 Some(View::Bytes(part_bytes(*count, *before, buffer)))
             }
+            Form::Text(count, before, buffer) => Some(View::Ascii(Ascii {
+                octets: part_bytes(*count, *before, buffer),
+            })),
         }
     }
 
@@ -362,6 +370,7 @@ impl<'a> Cell<'a> {
             Form::Inside(inside) => Form::Inside(inside.clone()?),
             Form::Buffer(buffer) => all_of(buffer.clone()?),
             Form::Part(count, before, buffer) => Form::Part(*count, *before, buffer.clone()?),
+            Form::Text(count, before, buffer) => Form::Text(*count, *before, buffer.clone()?),
         };
         Ok(Cell { form })
     }

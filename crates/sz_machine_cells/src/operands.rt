@@ -1,7 +1,8 @@
 //! The operands of a run.
-ghost use Rattle.std.specs.Prelude.{◌≡◌, ◌≤◌, ◌<◌, ◌+◌, IfNone, [], ◌∷◌, length, map, take, drop, ◌++◌, is_some, true, false, IfOk, IfSome, OnOk, OnErr, Some};
+ghost use Rattle.std.specs.Prelude.{◌≡◌, ◌≤◌, ◌<◌, ◌+◌, IfNone, [], ◌∷◌, length, map, take, drop, ◌++◌, List as ListOf, ℕ, is_some, true, false, IfOk, IfSome, OnOk, OnErr, Some};
 ghost use Rattle.std.specs.List.{list_all};
-ghost use Rattle.sz_value.specs.Data.{bytes, int};
+ghost use Rattle.std.specs.Str.{is_utf8};
+ghost use Rattle.sz_value.specs.Data.{bytes, int, str};
 ghost use Rattle.sz_value.specs.Seen.{seen};
 ghost use Rattle.sz_world_rules.specs.Slots.{all_defined};
 ghost use Rattle.sz_machine_rules.specs.States.{popped};
@@ -149,6 +150,17 @@ impl<'a> Operands<'a> {
         self.cells[self.cells.len() - 1].octets()
     }
 
+    /// The text that the topmost operand is, if it is bytes in a buffer all of which are ASCII: it lies where they do.
+    pub fn top_text(&self) -> Option<Cell<'a>>
+        requires some { 0 < length self.now }
+        ensures value { IfSome result (λ made. (octets : ListOf ℕ)
+            → self.now ≡ Some (bytes octets) ∷ drop 1 self.now → made ≡ Some (str octets)) }
+        ensures utf8 { IfSome result (λ made. (octets : ListOf ℕ)
+            → self.now ≡ Some (bytes octets) ∷ drop 1 self.now → is_utf8 octets ≡ true) }
+    {
+        self.top().text_in()
+    }
+
     /// The two topmost operands, the upper one last, if both are such bytes.
     #[inline(always)]
     pub fn top_two_octets(&self) -> Option<(&[u8], &[u8])>
@@ -198,7 +210,8 @@ impl<'a> Operands<'a> {
         requires some { 0 < length self.old }
         ensures value { self.new ≡ drop 1 self.old }
     {
-        match self.pop().form {
+        let cell = self.pop();
+        match cell.form {
             Form::Undefined | Form::Bool(_) | Form::Int(_) | Form::Time(_) => {}
             form => forget(Cell { form }),
         }

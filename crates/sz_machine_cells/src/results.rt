@@ -1,7 +1,8 @@
 //! What operators, functions, conversions and composites make of operands.
-ghost use Rattle.std.specs.Prelude.{◌≡◌, ◌∷◌, [], ℕ, pos, length, IfOk, Some, take, drop};
+ghost use Rattle.std.specs.Prelude.{◌≡◌, ◌∷◌, [], ℕ, pos, length, IfOk, Some, true, take, drop};
 ghost use Rattle.sz_types.specs.Seen.{seen as seen_type};
-ghost use Rattle.sz_value.specs.Data.{bytes, int};
+ghost use Rattle.sz_value.specs.Data.{bytes, int, str};
+ghost use Rattle.sz_value.specs.Texts.{is_ascii};
 ghost use Rattle.sz_builtin.specs.Conversions.{convert};
 ghost use Rattle.sz_builtin.specs.Places.{slice, index};
 ghost use Rattle.sz_builtin.specs.Views.{seen_view};
@@ -15,8 +16,8 @@ use crate::finding::place_in;
 use std::alloc::Global;
 use std::rc::Rc;
 use sz_builtin::{
-    Kind, View, binary_of_views, builtin_of_one, builtin_of_two, bytes_between, convert_view,
-    index_of_views, slice_of_view, unary_of_view,
+    Ascii, Kind, View, binary_of_views, builtin_of_one, builtin_of_two, bytes_between,
+    convert_view, index_of_views, slice_of_view, text_between, unary_of_view,
 };
 use sz_proto::decode;
 use sz_types::{BinOp, Builtin, Ty, UnOp};
@@ -165,7 +166,7 @@ fn element_in<'a>(
     }
 }
 
-/// The part of a value between two places. Of bytes that lie in a buffer it is one that lies there too, unless it is longer than 65,535 bytes
+/// The part of a value between two places. Of bytes or a text that lie in a buffer it is one that lies there too, unless it is longer than 65,535 bytes
 /// or stands after more than 2^32 - 1.
 #[tactic(auto, using(crate::proofs::ResultLemmas::no_beginning, crate::proofs::ResultLemmas::no_end))]
 pub fn slice_of<'a>(
@@ -200,6 +201,7 @@ pub fn slice_between<'a>(
     match x.form {
         Form::Buffer(buffer) => part_of_buffer(alloc, buffer, from, to),
         Form::Part(count, before, buffer) => part_of_part(alloc, count, before, buffer, from, to),
+        Form::Text(count, before, buffer) => part_of_text(alloc, count, before, buffer, from, to),
         form => part_of_any(alloc, &Cell { form }, from, to),
     }
 }
@@ -233,6 +235,26 @@ fn part_of_part<'a>(
 {
     match bytes_between(part_bytes(count, before, &buffer), from, to) {
         Some((more, count)) => Cell::of_part(alloc, buffer, before as usize + more, count),
+        None => Ok(Cell::undefined()),
+    }
+}
+
+// The same of so many bytes as a text.
+#[tactic(auto, using(crate::proofs::ResultLemmas::part_in_part, crate::proofs::ResultLemmas::ascii_in_part))]
+fn part_of_text<'a>(
+    alloc: Global,
+    count: u16,
+    before: u32,
+    buffer: Rc<Vec<u8>>,
+    from: i64,
+    to: i64,
+) -> Result<Cell<'a>, NoMemory>
+    requires ascii { is_ascii (take count (drop before buffer.value.items)) ≡ true }
+    ensures value { IfOk result (λ made. made ≡ slice (str (take count (drop before buffer.value.items))) from to) }
+{
+    let octets = part_bytes(count, before, &buffer);
+    match text_between(&Ascii { octets }, from, to) {
+        Some((more, count)) => Cell::of_text(alloc, buffer, before as usize + more, count),
         None => Ok(Cell::undefined()),
     }
 }

@@ -25,6 +25,7 @@ pub fn result_weight(made: &Cell<'_>) -> u64
         Form::Lent(value) => weight(value),
         Form::Buffer(buffer) => bytes_weight(buffer.as_ref().as_slice()),
         Form::Part(count, before, buffer) => bytes_weight(part_bytes(*count, *before, buffer)),
+        Form::Text(count, before, buffer) => text_weight(part_bytes(*count, *before, buffer)),
         Form::Element(_, _) | Form::Inside(_) => weight_by_look(made),
     }
 }
@@ -86,7 +87,7 @@ fn sum_weight(made: &Cell<'_>) -> u64
 {
     match &made.form {
         Form::Undefined | Form::Bool(_) | Form::Int(_) | Form::Time(_) => 0,
-        Form::Buffer(_) | Form::Part(_, _, _) => result_weight(made),
+        Form::Buffer(_) | Form::Part(_, _, _) | Form::Text(_, _, _) => result_weight(made),
         _ => joined_weight(made),
     }
 }
