@@ -8,6 +8,8 @@ mod given;
 #[cfg(test)]
 mod lists;
 #[cfg(test)]
+mod looks;
+#[cfg(test)]
 mod operations;
 #[cfg(test)]
 mod scopes;

@@ -1,9 +1,10 @@
 //! What operators, predeclared functions and conversions make of values, row by row.
 use crate::given::Given::{Array, Bool, Bytes, Int, Map, Names, Nothing, Str, Texts, Time, Tuple};
 use crate::given::{Given, list_of, slot_of};
+use crate::looks::answer_of_views;
 use crate::operations::Call::{Binary, Index, Of, Slice, To, Unary};
 use std::alloc::Global;
-use sz_builtin::{binary, builtin, convert, index, slice, unary};
+use sz_builtin::{View, binary, builtin, convert_view, index, slice, unary};
 use sz_types::BinOp::{
     Add, BitAnd, BitOr, BitXor, Div, Equal, Greater, GreaterEqual, Less, LessEqual, Mul, NotEqual,
     Rem, Shl, Shr, Sub,
@@ -14,7 +15,7 @@ use sz_types::{BinOp, Builtin, Fields, NoMemory, Ty, UnOp};
 use sz_value::{List, Slot, Value, equal};
 
 #[derive(Clone, Copy)]
-enum Call {
+pub(crate) enum Call {
     Binary(BinOp),
     Unary(UnOp),
     Index,
@@ -26,7 +27,7 @@ enum Call {
 
 // The types to which values are converted.
 #[derive(Clone, Copy)]
-enum Wanted {
+pub(crate) enum Wanted {
     Bool,
     Int,
     Time,
@@ -287,6 +288,9 @@ const COMPARISONS: &[(BinOp, bool, bool, bool)] = &[
     (GreaterEqual, false, true, true),
 ];
 
+// Whether the first of two values lies elsewhere, and whether the second does.
+const LOOKS: &[(bool, bool)] = &[(true, false), (false, true), (true, true)];
+
 // The tables come from calls, so that no proof sees what stands in them.
 fn rows() -> &'static [Row] {
     ROWS
@@ -300,6 +304,10 @@ fn comparisons() -> &'static [(BinOp, bool, bool, bool)] {
     COMPARISONS
 }
 
+fn looks() -> &'static [(bool, bool)] {
+    LOOKS
+}
+
 fn answer(alloc: Global, call: Call, values: &List) -> Result<Slot, NoMemory> {
     match (call, values.as_slice()) {
         (Call::Binary(op), [a, b]) => binary(alloc, op, a, b),
@@ -307,19 +315,19 @@ fn answer(alloc: Global, call: Call, values: &List) -> Result<Slot, NoMemory> {
         (Call::Index, [base, place]) => index(alloc, base, place),
         (Call::Slice(from, to), [base]) => slice(alloc, base, from, to),
         (Call::Of(which), _) => builtin(alloc, which, values),
-        (Call::To(wanted), [value]) => converted(alloc, value, wanted),
+        (Call::To(wanted), [value]) => converted(alloc, &View::Whole(value), wanted),
         _ => Err(NoMemory),
     }
 }
 
 #[tactic(auto, using(sz_builtin::proofs::ForCallers::plain_bool, sz_builtin::proofs::ForCallers::plain_int, sz_builtin::proofs::ForCallers::plain_time, sz_builtin::proofs::ForCallers::plain_str, sz_builtin::proofs::ForCallers::plain_bytes))]
-fn converted(alloc: Global, value: &Value, wanted: Wanted) -> Result<Slot, NoMemory> {
+pub(crate) fn converted(alloc: Global, value: &View<'_>, wanted: Wanted) -> Result<Slot, NoMemory> {
     match wanted {
-        Wanted::Bool => convert(alloc, value, &Ty::Bool),
-        Wanted::Int => convert(alloc, value, &Ty::Int),
-        Wanted::Time => convert(alloc, value, &Ty::Time),
-        Wanted::Str => convert(alloc, value, &Ty::Str),
-        Wanted::Bytes => convert(alloc, value, &Ty::Bytes),
+        Wanted::Bool => convert_view(alloc, value, &Ty::Bool),
+        Wanted::Int => convert_view(alloc, value, &Ty::Int),
+        Wanted::Time => convert_view(alloc, value, &Ty::Time),
+        Wanted::Str => convert_view(alloc, value, &Ty::Str),
+        Wanted::Bytes => convert_view(alloc, value, &Ty::Bytes),
         Wanted::Array => to_array(alloc, value),
         Wanted::Map => to_map(alloc, value),
         Wanted::Tuple => to_tuple(alloc, value),
@@ -327,26 +335,26 @@ fn converted(alloc: Global, value: &Value, wanted: Wanted) -> Result<Slot, NoMem
 }
 
 #[tactic(auto, using(sz_builtin::proofs::ForCallers::plain_array))]
-fn to_array(alloc: Global, value: &Value) -> Result<Slot, NoMemory> {
+fn to_array(alloc: Global, value: &View<'_>) -> Result<Slot, NoMemory> {
     let ty = Ty::Array(Box::new(alloc, Ty::Int)?);
-    let made = convert(alloc, value, &ty);
+    let made = convert_view(alloc, value, &ty);
     drop(ty);
     made
 }
 
 #[tactic(auto, using(sz_builtin::proofs::ForCallers::plain_map))]
-fn to_map(alloc: Global, value: &Value) -> Result<Slot, NoMemory> {
+fn to_map(alloc: Global, value: &View<'_>) -> Result<Slot, NoMemory> {
     let key = Box::new(alloc, Ty::Int)?;
     let ty = Ty::Map(key, Box::new(alloc, Ty::Int)?);
-    let made = convert(alloc, value, &ty);
+    let made = convert_view(alloc, value, &ty);
     drop(ty);
     made
 }
 
 #[tactic(auto, using(sz_builtin::proofs::ForCallers::plain_tuple))]
-fn to_tuple(alloc: Global, value: &Value) -> Result<Slot, NoMemory> {
+fn to_tuple(alloc: Global, value: &View<'_>) -> Result<Slot, NoMemory> {
     let ty = Ty::Tuple(Fields::new(alloc)?);
-    let made = convert(alloc, value, &ty);
+    let made = convert_view(alloc, value, &ty);
     drop(ty);
     made
 }
@@ -359,6 +367,22 @@ fn agree(found: &Result<Slot, NoMemory>, wanted: &Result<Slot, NoMemory>) -> boo
     }
 }
 
+// Whether it makes the same of views, of which one lies elsewhere, or both.
+fn makes_of_views(
+    alloc: Global,
+    call: Call,
+    values: &List,
+    wanted: &Result<Slot, NoMemory>,
+) -> bool {
+    let mut all = true;
+    for (first, second) in looks() {
+        let found = answer_of_views(alloc, call, values, *first, *second);
+        all = all && agree(&found, wanted);
+        drop(found);
+    }
+    all
+}
+
 // Whether a call makes this of values.
 fn makes(alloc: Global, (call, first, second, wanted): Row) -> bool {
     let Ok(values) = list_of(alloc, &[first, second]) else {
@@ -366,7 +390,7 @@ fn makes(alloc: Global, (call, first, second, wanted): Row) -> bool {
     };
     let found = answer(alloc, call, &values);
     let wanted = slot_of(alloc, wanted);
-    let all = agree(&found, &wanted);
+    let all = agree(&found, &wanted) && makes_of_views(alloc, call, &values, &wanted);
     drop(found);
     drop(wanted);
     all

@@ -1,13 +1,13 @@
 //! What common lines do to bytes that lie in a buffer, or in a value that stays with its owner: they are measured, searched, read as a number
 //! or a text, and cut where they lie, and no slot is made around what comes of it. Each is done wholly or not at all; no clause says when.
-ghost use Rattle.std.specs.Prelude.{◌≡◌, ◌<◌, ◌≤◌, length, Some, IfSome, true};
+ghost use Rattle.std.specs.Prelude.{◌≡◌, ◌<◌, ◌≤◌, ◌∷◌, length, drop, Some, IfSome, true};
 ghost use Rattle.std.specs.Str.{is_utf8};
 ghost use Rattle.std.specs.Option.{option_map};
 ghost use Rattle.sz_instr.specs.declared.code.Code.{Code};
 ghost use Rattle.sz_instr.specs.declared.instr.Instr.TheVariants as instr;
 ghost use Rattle.sz_types.specs.Rows.{arity};
 ghost use Rattle.sz_types.specs.declared.operator.Builtin.TheVariants.{Len, StrFind};
-ghost use Rattle.sz_value.specs.Data.{int, str};
+ghost use Rattle.sz_value.specs.Data.{bytes, int, str};
 ghost use Rattle.sz_value.specs.Weight.{weight_of};
 ghost use Rattle.sz_builtin.specs.Conversions.{number_in};
 ghost use Rattle.sz_machine.specs.Acting.{DoesIf, weighs_and_acts};
@@ -16,7 +16,7 @@ use crate::run_state::RunState;
 use std::alloc::Global;
 use sz_builtin::{number_in, place_of_bytes};
 use sz_instr::Code;
-use sz_machine_cells::Cell;
+use sz_machine_cells::{Cell, Operands};
 use sz_types::{Builtin, Ty};
 use sz_value::{Text, Value};
 
@@ -97,7 +97,7 @@ impl<'a> RunState<'a> {
         if weight > self.left {
             return false;
         }
-        let Some(made) = text_cell(alloc, octets) else {
+        let Some(made) = text_cell(alloc, &self.operands, octets) else {
             return false;
         };
         self.left -= weight;
@@ -141,10 +141,25 @@ fn text_weight(octets: &[u8]) -> u64
     (octets.len() as u64).saturating_add(1)
 }
 
-// The cell of the text that bytes are, if they are UTF-8 and there is memory.
+// The cell of the text that the topmost bytes are, if they are UTF-8 and there is memory. Such in a buffer, all of which are ASCII, lie as a
+// text where they do.
+#[inline(always)]
+fn text_cell<'a>(alloc: Global, operands: &Operands<'a>, octets: &[u8]) -> Option<Cell<'a>>
+    requires some { 0 < length operands.now }
+    requires same { operands.now ≡ Some (bytes octets.now) ∷ drop 1 operands.now }
+    ensures value { IfSome result (λ made. made ≡ Some (str octets.now)) }
+    ensures utf8 { IfSome result (λ made. is_utf8 octets.now ≡ true) }
+{
+    match operands.top_text() {
+        Some(made) => Some(made),
+        None => text_anew(alloc, octets),
+    }
+}
+
+// The same in memory of its own.
 #[inline(always)]
 #[tactic(auto, using(crate::proofs::QuickLemmas::is_text))]
-fn text_cell<'a>(alloc: Global, octets: &[u8]) -> Option<Cell<'a>>
+fn text_anew<'a>(alloc: Global, octets: &[u8]) -> Option<Cell<'a>>
     ensures value { IfSome result (λ made. made ≡ Some (str octets.now)) }
     ensures utf8 { IfSome result (λ made. is_utf8 octets.now ≡ true) }
 {

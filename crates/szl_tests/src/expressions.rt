@@ -143,6 +143,23 @@ c: table sum of int; u: int; r := input[1:4]; emit c <- int(def(r[u:2])) + int(d
 < 12,-7,+5,x¶
 c: table sum of int; emit c <- int(input[0:2]) + int(input[3:5]) * 100 + int(input[6:8]) * 10000 + int(def(int(input[9:10]))) * 1000000 + int(def(int(input[2:2]))) * 10000000; => 0 c[] = 49312¶
 
+== texts of ASCII are searched, measured, cut and compared where they lie
+< ab,cd,,x¶
+c: table sum of int; s: string = input; q := s[3:len(s)]; r := q[1:3]; emit c <- len(s) + len(q) * 100 + len(r) * 1000 + int(r == "d,") * 10000 + int("d," == r) * 100000 + int(s == "ab,cd,,x") * 1000000; => 0 c[] = 1112508¶
+c: table sum of int; u: int; s: string = input[1:4]; emit c <- int(def(s[u:2])) + int(def(s[0:u])) * 10 + int(def(s[2:1])) * 100 + int(def(s[-1:2])) * 1000 + int(def(s[0:4])) * 10000 + int(def(s[3:3])) * 100000 + len(s[3:3]) * 1000000; => 0 c[] = 100000¶
+c: table sum of int; s: string = input; emit c <- strfind(",", s) + strfind(s[6:8], s) * 10 + (strfind("z", s) + 2) * 100 + s[7] * 1000 + int(bytes(s[0:2]) == B"ab") * 1000000 + strfind(s[3:3], s) * 10000000; => 0 c[] = 1120162¶
+c: table sum of int; s: string = input; emit c <- int(s[0:1] < "b") + int("b" > s[0:1]) * 10 + int(s[0:2] < s[0:3]) * 100 + int(s[3:4] >= s[1:2]) * 1000 + int(s[0:1] != "a") * 10000 + int(s[0:0] == "") * 100000; => 0 c[] = 101111¶
+c: table sum of int; s: string = input; t := s[0:2] + s[3:5] + "é" + s[7:8]; emit c <- len(t) + int(t == "abcdéx") * 10 + int(s + s + s == "ab,cd,,xab,cd,,xab,cd,,x") * 100 + int("é" + s[0:1] == "éa") * 1000 + int(s[0:1] + "b" == "ab") * 10000; => 0 c[] = 11116¶
+c: table sum of int; s: string = input; m: map[string] of int = {s[0:2]: 5, s[3:5]: 6, "x": 7, s[7:8]: 8}; emit c <- len(m) + m["ab"] * 10 + m[s[3:5]] * 100 + m["x"] * 1000 + int(haskey(m, s[0:1])) * 10000 + int(haskey(m, s[0:2])) * 100000; => 0 c[] = 108653¶
+c: table sum of int; s: string = input; n := 0; while (len(s) > 0) { if (s[0:1] == ",") n++; s = s[1:len(s)]; } emit c <- n + len(s) * 10; => 0 c[] = 3¶
+t: table collection of int; s: string = input[0:6]; when (i: each int; s[i] == 44) emit t <- i; => 0 t[] = 2¶t[] = 5¶
+t: table collection of string; s: string = input; emit t <- s[0:2]; emit t <- s; emit t <- s[8:8]; a: array of string = {s[3:5], "b"}; a[1] = s[7:8]; emit t <- a[0] + a[1]; => 0 t[] = ""¶t[] = "ab"¶t[] = "ab,cd,,x"¶t[] = "cdx"¶
+< aéb¶
+c: table sum of int; s: string = input; t := s[1:3]; emit c <- len(s) + len(t) * 10 + int(t == "éb") * 100 + s[1] * 1000; => 0 c[] = 233123¶
+c: table sum of int; r: string = input[0:1]; q: string = input[3:4]; emit c <- int(r == "a") + int(q == "b") * 10 + int(def(string(input[1:2]))) * 100 + int(r + string(input[1:3]) + q == "aéb") * 1000; => 0 c[] = 1011¶
+< 12,-7,+5,x¶
+c: table sum of int; s: string = input; emit c <- int(s[0:2]) + int(s[3:5]) * 100 + int(s[6:8]) * 10000 + int(def(int(s[9:10]))) * 1000000 + int(def(int(s[2:2]))) * 10000000; => 0 c[] = 49312¶
+
 == conversions
 < ¶
 c: table sum of int; emit c <- int("+7") + int("-07") + int(B"12"); => 0 c[] = 12¶
