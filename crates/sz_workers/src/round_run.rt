@@ -100,8 +100,13 @@ fn run_all<'a, R: Threads + Sync, G: Gate + Sync, N: RoundName + Send + Sync>(
         IsLeft (λ s k. Dies N.job (shards_of N.round) s k) plan.now left.0.lanes.items left.1.items left.0.settled left.0.deaths) }
 {
     let copy = plan.copied(alloc)?;
-    let count = workers.div_ceil(2);
-    let lanes = empty_lanes(alloc, plan, job.compiled.tables(), count, workers > 1)?;
+    let lanes = empty_lanes(
+        alloc,
+        plan,
+        job.compiled.tables(),
+        workers.div_ceil(2),
+        workers > 1,
+    )?;
     let (ledger, mut first) = Ledger::make(alloc, copy, lanes, workers + 1)?;
     let ready = ready_workers(alloc, job, round, &ledger, gate, &mut first, workers)?;
     let back = run_workers(rt, ready)?;
