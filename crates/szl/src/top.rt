@@ -26,7 +26,7 @@ use crate::status::Status;
 use std::alloc::{AllocError, Global};
 use std::thread::Threads;
 use sz_disk::Disk;
-use sz_io::{Files, Gate, Sink, WriteError, write_whole};
+use sz_io::{Files, Gate, Sink, WriteError, write_line, write_whole};
 use sz_refusals::refusal_line;
 
 /// Runs the command line of these words, which come without the program's name: opens what it names in `files`,
