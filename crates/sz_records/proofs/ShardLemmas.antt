@@ -65,44 +65,82 @@ read_more rs from most last bytes r h is few light =
           (grows_more most (drop from rs) (last - from) bytes r h.grows (omega (arith, low, rest, begun)) (at_place rs from last r begun is) few light);
     }
 
-pub shard_full : (rs : List (List ℕ)) (from most last bytes : ℕ) (r : List ℕ) (at_end : Bool) → IsRead rs from most last bytes → slice_get rs last ≡ Some r
-    → (most ≤ last - from + 1) ⊎ (2 ^ 24 ≤ bytes + length r) → EndsShard rs from most at_end (last + 1)
-shard_full rs from most last bytes r at_end h is full = record {
-  within = (let b = h.begun in (omega (arith, b), omega (arith, low)));
-  shard = λ more done. shard more;
+-- the records from one place to another are a shard, if they are full and no shorter front of them is
+shard_from : (rs : List (List ℕ)) (from most end : ℕ) (at_end : Bool) → from < end → end ≤ length rs
+    → ((m : ℕ) → m < end - from → ¬ IsFull most (take m (drop from rs))) → IsFull most (take (end - from) (drop from rs)) → EndsShard rs from most at_end end
+shard_from rs from most end at_end begun within shortest full = record {
+  within = (begun, within);
+  shard = λ more done. subst (λ (l : List (List ℕ)). IsShard most l (end - from)) (sym (later more)) record {
+    some = omega (arith, begun);
+    within = (let l = length-append rest more in let i = inside in omega (arith, l, i));
+    shortest = λ m less wrong. shortest m less (subst (IsFull most) (same more m (let i = inside in omega (arith, i, less))) wrong);
+    ends = inl (subst (IsFull most) (sym (same more (end - from) inside)) full);
+  };
 } where
-  low : last < length rs
-  low = slice_get_within rs last r is
-
-  n : ℕ
-  n = last - from
-
   rest : List (List ℕ)
   rest = drop from rs
 
-  inside : n < length rest
-  inside = let e = length-drop from rs in let b = h.begun in let l = low in omega (arith, e, b, l)
-
-  next : n + 1 ≡ last + 1 - from
-  next = let b = h.begun in omega (arith, b)
+  inside : end - from ≤ length rest
+  inside = let e = length-drop from rs in omega (arith, e, begun, within)
 
   later : (more : List (List ℕ)) → drop from (rs ++ more) ≡ rest ++ more
-  later more = drop-append-le from rs more (let b = h.begun in let l = low in omega (arith, b, l))
+  later more = drop-append-le from rs more (omega (arith, begun, within))
 
   same : (more : List (List ℕ)) (m : ℕ) → m ≤ length rest → take m (rest ++ more) ≡ take m rest
   same more m le = take-append-le m rest more le
 
-  all_full : IsFull most (take (n + 1) rest)
-  all_full = ⊎_elim (λ (many : most ≤ n + 1). inl (let l = length-take-le (n + 1) rest (let i = inside in omega (arith, i)) in omega (arith, l, many)))
-      (λ (heavy : 2 ^ 24 ≤ bytes + length r). inr (let s = sum_by_more length rest n [] inside in let g = h.grows.sum in let e = ap length (at_place rs from last r h.begun is) in omega (arith, s, g, e, heavy))) full
+-- the record that was read last made them full
+pub shard_full : (rs : List (List ℕ)) (from most last bytes : ℕ) (r : List ℕ) (at_end : Bool) → IsRead rs from most last bytes → slice_get rs last ≡ Some r
+    → (most ≤ last - from + 1) ⊎ (2 ^ 24 ≤ bytes + length r) → EndsShard rs from most at_end (last + 1)
+shard_full rs from most last bytes r at_end h is full =
+    shard_from rs from most (last + 1) at_end (let b = h.begun in omega (arith, b)) (omega (arith, low))
+    (λ m less. not_full most rest n bytes h.grows m (let e = next in omega (arith, e, less)))
+    (subst (λ (k : ℕ). IsFull most (take k rest)) next all_full)
+  where
+    low : last < length rs
+    low = slice_get_within rs last r is
 
-  shard : (more : List (List ℕ)) → IsShard most (drop from (rs ++ more)) (last + 1 - from)
-  shard more = subst (λ (l : List (List ℕ)). IsShard most l (last + 1 - from)) (sym (later more)) (subst (IsShard most (rest ++ more)) next record {
-    some = omega arith;
-    within = (let l = length-append rest more in let i = inside in omega (arith, l, i));
-    shortest = λ m less full. not_full most rest n bytes h.grows m (omega arith) (subst (IsFull most) (same more m (let i = inside in omega (arith, i, less))) full);
-    ends = inl (subst (IsFull most) (sym (same more (n + 1) (let i = inside in omega (arith, i)))) all_full);
-  })
+    n : ℕ
+    n = last - from
+
+    rest : List (List ℕ)
+    rest = drop from rs
+
+    inside : n < length rest
+    inside = let e = length-drop from rs in let b = h.begun in let l = low in omega (arith, e, b, l)
+
+    next : n + 1 ≡ last + 1 - from
+    next = let b = h.begun in omega (arith, b)
+
+    all_full : IsFull most (take (n + 1) rest)
+    all_full = ⊎_elim (λ (many : most ≤ n + 1). inl (let l = length-take-le (n + 1) rest (let i = inside in omega (arith, i)) in omega (arith, l, many)))
+        (λ (heavy : 2 ^ 24 ≤ bytes + length r). inr (let s = sum_by_more length rest n [] inside in let g = h.grows.sum in let e = ap length (at_place rs from last r h.begun is) in omega (arith, s, g, e, heavy))) full
+
+-- as many records as a shard may have are one, if they hold fewer bytes
+pub shard_by_count : (rs : List (List ℕ)) (from most end : ℕ) (at_end : Bool) → 1 ≤ most → end ≡ from + most → end ≤ length rs
+    → bytes_in (take (end - from) (drop from rs)) < 2 ^ 24 → EndsShard rs from most at_end end
+shard_by_count rs from most end at_end some is within light =
+    shard_from rs from most end at_end (omega (arith, some, is)) within shortest
+    (inl (let e = length-drop from rs in let l = length-take-le (end - from) (drop from rs) (omega (arith, e, is, within)) in omega (arith, l, is)))
+  where
+    rest : List (List ℕ)
+    rest = drop from rs
+
+    shortest : (m : ℕ) → m < end - from → ¬ IsFull most (take m rest)
+    shortest m less (inl many) = let l = length-take m rest in absurd (omega (arith, many, l, less, is))
+    shortest m less (inr heavy) =
+        let fewer = sum_by-take-le length (take (end - from) rest) m in
+        let same = ap bytes_in (take-take m (end - from) rest (omega (arith, less))) in
+        absurd (omega (arith, heavy, fewer, same, light))
+
+-- the records from a place on are fewer than a shard may have, and hold fewer bytes
+pub rest_read : (rs : List (List ℕ)) (from most : ℕ) → from < length rs → length rs - from < most → bytes_in (take (length rs - from) (drop from rs)) < 2 ^ 24
+    → IsRead rs from most (length rs) (bytes_in (take (length rs - from) (drop from rs)))
+rest_read rs from most low few light = record {
+  begun = omega (arith, low);
+  within = omega arith;
+  grows = record { within = (let e = length-drop from rs in omega (arith, e)); sum = refl; few = few; light = light };
+}
 
 -- all records were read
 pub all_read : (rs : List (List ℕ)) (from most last bytes : ℕ) → IsRead rs from most last bytes → length rs ≤ last → IsRead rs from most (length rs) bytes

@@ -41,6 +41,7 @@ pub(crate) fn lower(places: &mut Vec<usize>, front: usize)
 }
 
 /// Adds a copy of these bytes to the buffer, and the place where they end.
+#[inline(always)]
 pub(crate) fn add(bytes: &mut Vec<u8>, ends: &mut Vec<usize>, more: &[u8]) -> Result<(), NoMemory>
     ensures bytes { OnOk result (bytes.new.items ≡ bytes.old.items ++ more.now) }
     ensures ends { OnOk result (ends.new.items ≡ ends.old.items ++ length bytes.new.items ∷ []) }

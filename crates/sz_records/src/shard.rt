@@ -10,30 +10,40 @@ const SHARD_BYTES: usize = 16_777_216;
 /// The place after the last record of the shard that begins at `from`. A shard has at most `most` records. `at_end` says that no
 /// more records come.
 ///
-/// Records that fill no shard are not looked at one by one, so that the call may be made again after each of them.
+/// Records are looked at one by one only where so many of them as a shard may have hold the bytes of one; else two ends tell, so that the call
+/// may be made again after each record.
 pub fn shard_end(records: &Records, from: usize, most: u32, at_end: bool) -> Option<usize>
     requires most { 1 ≤ most }
     ensures some { IfSome result (λ end. EndsShard records.now.items from most at_end end) }
     ensures none { IfNone result (IsOpenAt records.now.items from most at_end) }
 {
-    if from >= records.len() {
+    let all = records.len();
+    if from >= all {
         return None;
     }
-    if !fill_none(records, from, most) {
-        return walked_end(records, from, most, at_end);
+    let left = all - from;
+    if left < most as usize {
+        return last_end(records, from, most, at_end);
     }
-    if at_end { Some(records.len()) } else { None }
+    let end = from + most as usize;
+    if records.bytes_between(from, end) < SHARD_BYTES {
+        return Some(end);
+    }
+    walked_end(records, from, most, at_end)
 }
 
-/// Whether the records from a place on fill no shard, nor does a front of them.
-fn fill_none(records: &Records, from: usize, most: u32) -> bool
-    requires from { from ≤ length records.now.items }
-    ensures few { (result ≡ true) → length records.now.items - from < most }
-    ensures light { (result ≡ true) → bytes_in (drop from records.now.items) < 2 ^ 24 }
+/// The same where fewer records are left than a shard may have.
+fn last_end(records: &Records, from: usize, most: u32, at_end: bool) -> Option<usize>
+    requires some { from < length records.now.items }
+    requires few { length records.now.items - from < most }
+    ensures some { IfSome result (λ end. EndsShard records.now.items from most at_end end) }
+    ensures none { IfNone result (IsOpenAt records.now.items from most at_end) }
 {
     let all = records.len();
-    let bytes = records.bytes_between(from, all);
-    all - from < most as usize && bytes < SHARD_BYTES
+    if records.bytes_between(from, all) >= SHARD_BYTES {
+        return walked_end(records, from, most, at_end);
+    }
+    if at_end { Some(all) } else { None }
 }
 
 /// The place after the last record of the shard that begins at `from`, found record by record.
