@@ -15,7 +15,7 @@ use Rattle.sz_machine_rules.specs.States.{State, Goes, popped, faults}
 use Rattle.sz_machine.specs.declared.run_state.RunState.{RunState}
 use Rattle.sz_machine.specs.declared.run_state.Onward.TheVariants.{On}
 use Rattle.sz_machine.specs.Acting.{Around, Paid, DoesAt, world_of, state_of, when_paid, weighs_and_acts}
-use Rattle.sz_machine.specs.Emitting.{parts_weight, emits_made, emits_paid, emits_parts, emits_on_top}
+use Rattle.sz_machine.specs.Emitting.{parts_weight, emits_made, emits_paid, emits_on_top}
 
 -- nothing is emitted without indexes
 pub no_indexes : (table : ℕ) (value : Slot) (weight : Option Slot) → emit_by_weight table None value weight ≡ None
@@ -218,17 +218,6 @@ module _ (counting : Option ℕ) (table n : ℕ) (w : Option Slot) (place : Plac
           }))) some)
 
 module _ (code : Code) (table : ℕ) (place : Place) where
-  -- a value alone
-  pub emit_single : (s : State) (x : Slot) (rest : List Slot) → s.stack ≡ x ∷ rest
-      → weighs_and_acts code (Emit table 0 false) place s ≡ emits_parts code.ignore table (Some []) x None place (record s { stack = rest })
-  emit_single s x rest e = emit_without code table 0 place s x rest e ∙ at_hand s.stack e
-    where
-      at_hand : (l : List Slot) → l ≡ x ∷ rest
-          → emits_on_top code.ignore table 0 None place (record s { stack = l }) ≡ emits_parts code.ignore table (Some []) x None place (record s { stack = rest })
-      at_hand l is =
-          subst (λ l. emits_on_top code.ignore table 0 None place (record s { stack = l }) ≡ emits_parts code.ignore table (Some []) x None place (record s { stack = rest }))
-          (sym is) refl
-
   -- one whose weight isn't left
   pub alone_unpaid : (s : State) (x : Slot) (rest : List Slot) → s.stack ≡ x ∷ rest → spend (result_weight x) s.world ≡ None
       → weighs_and_acts code (Emit table 0 false) place s ≡ faults budget_passed place

@@ -7,4 +7,3 @@ pub mod StepLemmas
 pub mod LineLemmas
 pub mod RunLemmas
 pub mod StoreLemmas
-pub mod NumberLemmas

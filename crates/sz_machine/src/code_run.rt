@@ -90,7 +90,7 @@ impl<'a> Room<'a> {
 }
 
 impl<'a> RunState<'a> {
-    /// Nothing in place yet but so many ticks, which takes no memory.
+    /// The state before a run with so many ticks, which takes no memory.
     fn new(alloc: Global, budget: u64) -> RunState<'a>
         ensures value { result ≡ record { operands = []; calls = record { locals = []; lists = []; callers = [] }; emits = []; left = budget } }
     {
@@ -141,7 +141,7 @@ impl<'a> RunState<'a> {
         if !self.pay(charge) {
             return Ok(Onward::Fault(BUDGET_PASSED));
         }
-        if let Some(next) = self.act_quickly(code, at, &line.instr) {
+        if let Some(next) = self.act_quickly(alloc, code, at, &line.instr) {
             return Ok(next);
         }
         self.act_in_record(alloc, code, statics, input, at, line.place, &line.instr)

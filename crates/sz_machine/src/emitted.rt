@@ -8,8 +8,8 @@ use std::mem;
 use sz_tabs::{Emit, Emits};
 use sz_value::{List, NoMemory, Value};
 
-/// The emits of a run so far. Those of runs before stand behind them or are spare, and each serves again for the next emit: it takes its
-/// place and the room of its index list, and nothing is dropped where both have a number.
+/// The emits of a run so far. Those of runs before stand behind them or are spare. The next emit is written over one of them, and takes over the room
+/// of its index list; where the old value and the new one are whole numbers, nothing has to be dropped.
 ///
 /// Contracts see the list of the run's own emits.
 pub struct Emitted {
@@ -120,7 +120,9 @@ impl Emitted {
     }
 
     /// Takes over emits that have served, for their room and their index lists.
-    pub fn take_back(&mut self, emits: Emits) {
+    pub fn take_back(&mut self, emits: Emits)
+        ensures value { self.new ≡ [] }
+    {
         self.count = 0;
         self.emits = emits.into_vec();
     }

@@ -1,19 +1,18 @@
 //! Emits.
-ghost use Rattle.std.specs.Prelude.{◌≡◌, ◌+◌, ◌<◌, ◌≤◌, ◌∷◌, ◌++◌, ℕ, length, drop, false, IfOk, OnOk, Some, None, Option, List, []};
+ghost use Rattle.std.specs.Prelude.{◌≡◌, ◌+◌, ◌<◌, ◌≤◌, ◌∷◌, ◌++◌, length, false, IfOk, OnOk, Some, None, Option, List, []};
 ghost use Rattle.sz_instr.specs.declared.code.Code.{Code};
 ghost use Rattle.sz_instr.specs.declared.instr.Instr.TheVariants as instr;
 ghost use Rattle.sz_value.specs.Seen.{seen};
-ghost use Rattle.sz_value.specs.Data.{int};
 ghost use Rattle.sz_world_rules.specs.Slots.{all_defined};
 ghost use Rattle.sz_world_rules.specs.Ticks.{result_weight};
 ghost use Rattle.sz_world_rules.specs.Emits.{weight_number, weight_if_all, emit_by_weight, line_emit};
 ghost use Rattle.sz_machine_rules.specs.States.{popped};
 ghost use Rattle.sz_machine_rules.specs.Rows.{emit_operands};
-ghost use Rattle.sz_machine.specs.Acting.{Paid, Does, DoesAt, weighs_and_acts, if_paid};
+ghost use Rattle.sz_machine.specs.Acting.{Paid, DoesAt, weighs_and_acts, if_paid};
 ghost use Rattle.sz_machine.specs.declared.run_state.Onward.TheVariants.{On};
-ghost use Rattle.sz_machine.specs.Emitting.{parts_weight, emits_made, emits_parts, emits_on_top};
+ghost use Rattle.sz_machine.specs.Emitting.{parts_weight, emits_made, emits_on_top};
 
-use crate::run_state::{BUDGET_PASSED, Onward, RunState, if_paid};
+use crate::run_state::{Onward, RunState, if_paid};
 use std::alloc::Global;
 use sz_instr::Code;
 use sz_machine_cells::{Cell, result_weight};
@@ -23,7 +22,7 @@ use sz_value::{List, NoMemory, Value};
 
 impl<'a> RunState<'a> {
     /// Pops the parts of an emit to the table, and emits them if all are defined; else its line is counted, if the code counts lines.
-    /// A whole number alone is emitted in line, and what has at most one index by a call of its own.
+    /// What has at most one index and no weight is emitted by a call of its own.
     #[inline(always)]
     pub fn emit(
         &mut self,
@@ -37,29 +36,13 @@ impl<'a> RunState<'a> {
         requires within { emit_operands indexes weighted ≤ length self.old.operands }
         ensures value { IfOk result (λ next. DoesAt place (weighs_and_acts code.now (instr.Emit table indexes weighted)) self.old next self.new) }
     {
-        if weighted {
+        if weighted || indexes > 1 {
             return Ok(if_paid(self.emit_any(alloc, code, place, table, indexes, weighted)?));
         }
         if indexes == 1 {
             return Ok(if_paid(self.emit_under_one(alloc, code, place, table)?));
         }
-        if indexes != 0 {
-            return Ok(if_paid(self.emit_any(alloc, code, place, table, indexes, weighted)?));
-        }
-        match self.operands.top().int() {
-            Some(number) => self.emit_top(alloc, table, number),
-            None => Ok(if_paid(self.emit_alone(alloc, code, place, table)?)),
-        }
-    }
-
-    // Pops a whole number and emits it, with neither indexes nor a weight.
-    #[inline(always)]
-    fn emit_top(&mut self, alloc: Global, table: u32, number: i64) -> Result<Onward, NoMemory>
-        requires top { self.old.operands ≡ Some (int number) ∷ drop 1 self.old.operands }
-        ensures value { (code : Code) → IfOk result (λ next. Does (weighs_and_acts code (instr.Emit table 0 false)) self.old next self.new) }
-    {
-        self.operands.drop_one();
-        self.emit_number(alloc, table, number)
+        Ok(if_paid(self.emit_alone(alloc, code, place, table)?))
     }
 
     // Pops a value and emits it, with neither indexes nor a weight. Whether the ticks for it were left.
@@ -203,19 +186,6 @@ impl<'a> RunState<'a> {
         } else {
             self.emit_on_top(alloc, code, place, table, indexes, None)
         }
-    }
-
-    // Emits a whole number, which weighs one tick.
-    #[inline(always)]
-    fn emit_number(&mut self, alloc: Global, table: u32, number: i64) -> Result<Onward, NoMemory>
-        ensures value { (counting : Option ℕ) → IfOk result (λ next.
-            Does (emits_parts counting table (Some []) (Some (int number)) None) self.old next self.new) }
-    {
-        if !self.pay(1) {
-            return Ok(Onward::Fault(BUDGET_PASSED));
-        }
-        self.emits.push_alone(alloc, table, Value::Int(number))?;
-        Ok(Onward::On)
     }
 
     // Pops the value and the indexes of an emit with this weight.

@@ -1,6 +1,6 @@
-//! What common lines do, as long as it can't fault: constants and locals; whole numbers and truth values that lie in their cells, which never
-//! leave the registers; and bytes where they lie. Each is done wholly or not at all; no clause says when.
-ghost use Rattle.std.specs.Prelude.{◌≡◌, ◌<◌, ℕ, Option, length, IfSome, IfNone};
+//! The common lines, in the cases that can't fault: constants and locals; whole numbers and truth values that lie in their cells; and bytes where
+//! they lie. Each is done wholly or not at all; no clause says which.
+ghost use Rattle.std.specs.Prelude.{◌≡◌, ◌<◌, ℕ, Option, false, length, IfSome, IfNone};
 ghost use Rattle.sz_instr.specs.declared.code.Code.{Code};
 ghost use Rattle.sz_types.specs.declared.place.Place.{Place};
 ghost use Rattle.sz_instr.specs.declared.instr.Instr.TheVariants as instr;
@@ -8,6 +8,7 @@ ghost use Rattle.sz_machine_rules.specs.Rows.{act, indexes_in, store};
 ghost use Rattle.sz_machine.specs.Acting.{DoesIf, DoesWhere, IsCovered, on_if, weighs_and_acts};
 
 use crate::run_state::{Onward, RunState};
+use std::alloc::Global;
 use sz_instr::{Code, Instr, Steps};
 use sz_machine_cells::of_ints;
 use sz_types::BinOp;
@@ -16,7 +17,13 @@ use sz_value::Value;
 impl<'a> RunState<'a> {
     /// What the instruction of a line at a place does, if it is one of these and finds such operands. Else nothing is done.
     #[inline(always)]
-    pub fn act_quickly(&mut self, code: &'a Code, at: usize, instr: &Instr) -> Option<Onward>
+    pub fn act_quickly(
+        &mut self,
+        alloc: Global,
+        code: &'a Code,
+        at: usize,
+        instr: &Instr,
+    ) -> Option<Onward>
         requires room { at < usize.MAX }
         requires covers { IsCovered code.now instr.now self.old }
         ensures done { IfSome result (λ next. (place : Place) →
@@ -35,6 +42,7 @@ impl<'a> RunState<'a> {
             Instr::Apply(which) => on_if(self.apply_to_octets(*which)),
             Instr::Convert(ty) => on_if(self.read_number(code, *ty)),
             Instr::Slice => on_if(self.cut()),
+            Instr::Emit(table, 0, false) => on_if(self.emit_int(alloc, *table)),
             _ => None,
         }
     }
@@ -124,6 +132,30 @@ impl<'a> RunState<'a> {
         let truth = self.operands.top().bool()?;
         self.operands.drop_one();
         Some(Onward::To(if truth { at + 1 } else { to }))
+    }
+
+    // Pops a whole number and emits it, with neither indexes nor a weight, if its tick is left and there is memory.
+    #[inline(always)]
+    fn emit_int(&mut self, alloc: Global, table: u32) -> bool
+        requires some { 0 < length self.old.operands }
+        ensures value { (code : Code) → DoesIf result (weighs_and_acts code (instr.Emit table 0 false)) self.old self.new }
+    {
+        if self.left == 0 {
+            return false;
+        }
+        let Some(number) = self.operands.top().int() else {
+            return false;
+        };
+        if self
+            .emits
+            .push_alone(alloc, table, Value::Int(number))
+            .is_err()
+        {
+            return false;
+        }
+        self.operands.drop_one();
+        self.left -= 1;
+        true
     }
 }
 

@@ -1,12 +1,12 @@
-//! A run in place: what lines change.
-ghost use Rattle.std.specs.Prelude.{◌≡◌, ◌<◌, ◌∷◌, drop, IfOk};
+//! The state of a run, which lines change.
+ghost use Rattle.std.specs.Prelude.{◌≡◌, ◌<◌, drop, IfOk};
 ghost use Rattle.sz_machine.specs.Acting.{Paid, Does, results, if_paid, if_passed};
 
 use crate::emitted::Emitted;
 use sz_machine_cells::{Calls, Cell, Operands};
 use sz_value::NoMemory;
 
-/// A run in place: its operands and open calls, the emits so far, and the ticks that are left.
+/// The state of a run: its operands, its open calls, the emits so far, and the ticks that are left.
 pub struct RunState<'a> {
     pub operands: Operands<'a>,
     pub calls: Calls<'a>,
@@ -69,7 +69,8 @@ impl<'a> RunState<'a> {
     }
 }
 
-/// Where a run goes after a line whose ticks were left, or weren't. What stands out of line tells just that, which takes no place in memory.
+/// Where a run goes after a line: on, where its ticks were left, and else to the fault. A function that isn't put in line answers the truth value
+/// alone, so its caller needs no memory for the answer.
 #[inline(always)]
 pub fn if_paid(paid: bool) -> Onward
     ensures value { result ≡ if_paid paid }
@@ -81,7 +82,7 @@ pub fn if_paid(paid: bool) -> Onward
     }
 }
 
-/// Where a run goes where an undefined value was used: so, if that was passed over.
+/// Where a run goes after an undefined value was used: to `next` where that was passed over, and else to the fault.
 #[inline(always)]
 pub fn if_passed(passed: bool, next: Onward) -> Onward
     ensures value { result ≡ if_passed passed next }

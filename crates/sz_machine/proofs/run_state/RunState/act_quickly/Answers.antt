@@ -1,5 +1,5 @@
 -- Each row is done, or nothing is.
-use Rattle.std.proofs.Common.{rules, ◌≡◌}
+use Rattle.std.proofs.Common.{rules, ◌≡◌, false}
 use Rattle.sz_instr.specs.declared.instr.Instr.TheVariants as instr
 use Rattle.sz_machine.specs.Acting.{weighs_and_acts}
 use Rattle.sz_machine.proofs.QuickLemmas.{row_done, row_left}
@@ -92,3 +92,14 @@ pub returns-in-Slice-clause-left : goal.returns-in-Slice-clause-left
 returns-in-Slice-clause-left c =
     let row = weighs_and_acts c.args.code.now instr.Slice in
     rw c.on_if-in-Slice.ensures.value (row_left row c.args.self.now c.cut.new.self c.cut.result (c.cut.ensures.value c.args.code.now))
+
+pub returns-in-Emit-default-eq0-false-clause-done : goal.returns-in-Emit-default-eq0-false-clause-done
+returns-in-Emit-default-eq0-false-clause-done c =
+    let is : c.args.instr.now ≡ instr.Emit c.in-Emit-default-eq0-false.table 0 false = search rules in
+    let row = weighs_and_acts c.args.code.now (instr.Emit c.in-Emit-default-eq0-false.table 0 false) in
+    rw c.on_if-in-Emit-default-eq0-false.ensures.value (rw is (row_done row c.args.self.now c.emit_int.new.self c.emit_int.result c.args.at (c.emit_int.ensures.value c.args.code.now)))
+
+pub returns-in-Emit-default-eq0-false-clause-left : goal.returns-in-Emit-default-eq0-false-clause-left
+returns-in-Emit-default-eq0-false-clause-left c =
+    let row = weighs_and_acts c.args.code.now (instr.Emit c.in-Emit-default-eq0-false.table 0 false) in
+    rw c.on_if-in-Emit-default-eq0-false.ensures.value (row_left row c.args.self.now c.emit_int.new.self c.emit_int.result (c.emit_int.ensures.value c.args.code.now))
