@@ -1,7 +1,7 @@
 //! From the words and the devices to the answer.
 ghost use Rattle.std.specs.Prelude.{◌≡◌, ◌≤◌, ◌<◌, ◌⊎◌, IfSome, IfErr, IsErrOf, OnOk, OnErr, length, map, string_bytes};
 ghost use Rattle.std.specs.Io.KnownBytes.{Appends};
-ghost use Rattle.sz_io.specs.Rose.{Rose};
+ghost use Rattle.sz_io.specs.Rose.{Rose, DoNotFall};
 ghost use Rattle.sz_io.specs.Opened.{KeepsFiles};
 ghost use Rattle.sz_io.specs.Calls.{AppendsPart, GainsLine, ReadToEnd};
 ghost use Rattle.szl_cut.specs.Answers.{asked_in, size_in, size_after, IsWhy, line_of};
@@ -39,6 +39,8 @@ pub fn cut_file<F: Files, O: Sink, E: Sink>(
     ensures end { OnOk result (IfSome (asked_in (map string_bytes words.now)) (λ asked. ReadToEnd F.Files files.old files.new asked.name)) }
     ensures names { OpensAsked F.Files (asked_in (map string_bytes words.now)) (ran_out result) files.old files.new }
     ensures kept { KeepsFiles F.held F.left F.given F.faults files.old files.new }
+    ensures out_counts { DoNotFall O.faults O.refusals out.old out.new }
+    ensures err_counts { DoNotFall E.faults E.refusals err.old err.new }
 {
     match write_places(alloc, words, files, out) {
         Ok(()) => Ok(()),
@@ -62,6 +64,7 @@ fn write_places<F: Files, O: Sink>(
     ensures end { OnOk result (IfSome (asked_in (map string_bytes words.now)) (λ asked. ReadToEnd F.Files files.old files.new asked.name)) }
     ensures names { OpensAsked F.Files (asked_in (map string_bytes words.now)) (ran_out result) files.old files.new }
     ensures kept { KeepsFiles F.held F.left F.given F.faults files.old files.new }
+    ensures out_counts { DoNotFall O.faults O.refusals out.old out.new }
 {
     let [name, word] = words else {
         return Err(Failure::Usage);
@@ -103,6 +106,7 @@ fn write_text<O: Sink>(out: &mut O, text: &[u8]) -> Result<(), Failure>
     ensures why { IfErr result (λ failure. (failure ≡ Failure.NoMemory) ⊎ (failure ≡ Failure.WriteFailed)) }
     ensures part { OnErr result (AppendsPart (O.taken out.old) (O.taken out.new) text.now) }
     ensures failed { IsErrOf result Failure.WriteFailed → Rose (O.faults out.old) (O.faults out.new) }
+    ensures kept { DoNotFall O.faults O.refusals out.old out.new }
 {
     match write_whole(out, text) {
         Ok(()) => Ok(()),
@@ -115,6 +119,7 @@ fn write_text<O: Sink>(out: &mut O, text: &[u8]) -> Result<(), Failure>
 fn tell<E: Sink>(alloc: Global, err: &mut E, failure: Failure) -> Failure
     ensures told { (result ≡ failure) ⊎ (result ≡ Failure.NoMemory) }
     ensures line { GainsLine E.Sink err.old err.new (line_of result) }
+    ensures kept { DoNotFall E.faults E.refusals err.old err.new }
 {
     match line_of(alloc, failure) {
         Ok(line) => tell_line(err, &line, failure),
@@ -127,6 +132,7 @@ fn tell_line<E: Sink>(err: &mut E, line: &[u8], failure: Failure) -> Failure
     requires { line.now ≡ line_of failure }
     ensures told { result ≡ failure }
     ensures line { GainsLine E.Sink err.old err.new (line_of failure) }
+    ensures kept { DoNotFall E.faults E.refusals err.old err.new }
 {
     write_line(err, line);
     failure

@@ -4,7 +4,7 @@
 use std::alloc::{AllocError, Global};
 use std::process::ExitCode;
 use std::{env, io};
-use sz_io::{OsFiles, OsSink, write_whole};
+use sz_io::{OsFiles, OsSink, write_line};
 use szl_cut::{Failure, cut_file};
 
 /// The words of the command line without the program's name. Words that aren't UTF-8 are no command line.
@@ -28,7 +28,7 @@ fn main(rt: HostRuntime) -> ExitCode {
     let alloc: Global = rt.alloc();
     let mut err = OsSink::new(rt.stderr());
     let Ok(words) = given_words(&rt) else {
-        let _ = write_whole(&mut err, b"out of memory\n");
+        write_line(&mut err, b"out of memory\n");
         return ExitCode::from(Failure::NoMemory.code());
     };
     let mut files = OsFiles::new(&rt, alloc);

@@ -98,14 +98,7 @@ module _ {O : Type 0} (the_out : sink.Ghosts O) (told : Option (List ℕ)) (old 
       }
 
       some : AppendsPart (the_out.taken old) (the_out.taken new) said → WritesSome told (the_out.taken old) (the_out.taken new)
-      some part = record {
-        refusal = e.refusal;
-        said = said;
-        explains = explains;
-        count = part.count;
-        less = part.less;
-        appends = part.appends;
-      }
+      some part = record { refusal = e.refusal; said = said; explains = explains; appends = part }
 
       by : (status : Status) → Prints the_out (Ok e) status old new → IsAnswer the_out told status old new
       by Done all = record { refusal = e.refusal; said = said; explains = explains; is = all.0; appends = all.1 }

@@ -1,9 +1,9 @@
 -- What a command line is answered.
-use Rattle.std.specs.Prelude.{◌≡◌, ℕ, ◌<◌, ◌⊎◌, Bool, true, false, List, [], ◌∷◌, ◌++◌, length, take, codes}
+use Rattle.std.specs.Prelude.{◌≡◌, ℕ, ◌⊎◌, Bool, true, false, List, [], ◌∷◌, ◌++◌, codes}
 use Rattle.std.specs.Prelude.{Option, Some, None, IfSome, IfNone, if◌then◌else◌}
 use Rattle.std.specs.Io.KnownBytes.{Appends}
 use Rattle.sz_io.specs.Words.{is_file_name}
-use Rattle.sz_io.specs.Calls.{NamesGain}
+use Rattle.sz_io.specs.Calls.{AppendsPart, NamesGain}
 use Rattle.sz_io.specs.declared.files.Files as files
 use Rattle.sz_io.specs.declared.sink.Sink as sink
 use Rattle.sz_refusals.specs.declared.refusal.Refusal.{Refusal}
@@ -68,9 +68,7 @@ pub record WritesSome (told old new : Option (List ℕ)) : Type 0 where
   pub refusal : Option Refusal
   pub said : List ℕ
   pub explains : Explains told refusal said
-  pub count : ℕ
-  pub less : count < length said
-  pub appends : Appends old new (take count said)
+  pub appends : AppendsPart old new said
 
 -- What a status says of the file under the name that is asked for, and of the output: all was written that is said of the file, a front of
 -- that where writing failed, that or no call where memory ran out, and else no call

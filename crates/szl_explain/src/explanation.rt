@@ -4,6 +4,7 @@ ghost use Rattle.sz_lex.specs.Tokens.{first_place};
 ghost use Rattle.sz_check_rules.specs.declared.cause.Cause.TheVariants.{TooLong};
 ghost use Rattle.sz_refusals.specs.Refusing.{refusal_at};
 ghost use Rattle.sz_refusals.specs.Lines.{refusal_line};
+ghost use Rattle.sz_refusals.specs.Texts.{most_program_bytes};
 ghost use Rattle.szl_explain_judge.specs.Refusing.{IsProgram, IsRefused};
 ghost use Rattle.szl_explain.specs.Answers.{first_line};
 
@@ -92,8 +93,17 @@ pub fn explain_too_long(alloc: Global) -> Result<Explanation, AllocError>
 /// The lines of a text that is too long.
 fn too_long_lines(alloc: Global) -> Result<Vec<u8>, AllocError> {
     let mut page = Page::new(alloc);
-    page.say("refusal 4\nThe text has more than 1048576 bytes.\n");
+    say_number(&mut page, Cause::TooLong);
+    page.say("\nThe text has more than ");
+    page.number(MOST_PROGRAM_BYTES as u64);
+    page.say(" bytes.\n");
     page.into_bytes()
+}
+
+/// Says the number of a refusal.
+fn say_number(page: &mut Page, cause: Cause) {
+    page.say("refusal ");
+    page.number(cause.number() as u64);
 }
 
 /// The lines below the first.
@@ -102,8 +112,7 @@ fn more_lines(alloc: Global, text: &[u8], refusal: &Refusal) -> Result<Vec<u8>, 
         return too_long_lines(alloc);
     }
     let mut page = Page::new(alloc);
-    page.say("refusal ");
-    page.number(refusal.cause.number() as u64);
+    say_number(&mut page, refusal.cause);
     page.say("\n");
     match refusal.cause {
         Cause::BadChar => say_character(&mut page, text, refusal.place),
@@ -121,7 +130,7 @@ fn say_tokens(
     text: &[u8],
     refusal: &Refusal,
 ) -> Result<(), AllocError>
-    requires { length text.now ≤ 1048576 }
+    requires { length text.now ≤ most_program_bytes }
 {
     let Ok(tokens) = lex(alloc, text) else {
         return Err(AllocError);
@@ -188,7 +197,11 @@ fn say_names(
         Cause::WrongWeight => fault.say_weight(alloc, page),
         Cause::NotAssignable => fault.say_not_assignable(alloc, page),
         Cause::EmitHere => fault.say_emit_here(alloc, page),
-        _ => Ok(()),
+        // For these none is looked at.
+        Cause::BadChar | Cause::BadLiteral | Cause::NotUtf8 | Cause::TooLong => Ok(()),
+        Cause::Syntax | Cause::WrongType | Cause::NoType | Cause::Misplaced => Ok(()),
+        Cause::LeftOut | Cause::BadTable | Cause::BadProto | Cause::Unbounded => Ok(()),
+        Cause::QuantOrder | Cause::TooMany | Cause::ReservedName | Cause::TypeTooDeep => Ok(()),
     }
 }
 
@@ -214,7 +227,8 @@ fn say_reserved(page: &mut Page, source: Source<'_>) {
         let is_table = source.is(index.saturating_add(1), ":")
             && source.is(index.saturating_add(2), "table");
         if is_table && source.spelled(index) == b"_undefs".as_slice() {
-            page.say("refusal 24 with --ignore-undefs: ");
+            say_number(page, Cause::ReservedName);
+            page.say(" with --ignore-undefs: ");
             page.say(Cause::ReservedName.text());
             page.say(" at ");
             page.place(token.place);

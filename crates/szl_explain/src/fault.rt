@@ -2,7 +2,8 @@
 use std::alloc::{AllocError, Global};
 use szl_explain_source::{Declared, Names, Page, Source};
 
-/// A token of a program that was refused, and where the statement at the top level begins that it stands in: the offset of its first byte.
+/// A token of a program that was refused, by its index from 0, and the offset of the first byte of the statement at the top level that it
+/// stands in, counted from 0.
 #[derive(Clone, Copy)]
 pub struct Fault<'t> {
     pub source: Source<'t>,

@@ -1,7 +1,7 @@
 //! The call of the program: from the words and the devices to the status.
 ghost use Rattle.std.specs.Prelude.{◌≡◌, ◌<◌, ◌++◌, ℕ, [], Err, OnOk, OnErr, IfSome, length, map, string_bytes};
 ghost use Rattle.std.specs.Io.KnownBytes.{Appends};
-ghost use Rattle.sz_io.specs.Rose.{Rose};
+ghost use Rattle.sz_io.specs.Rose.{Rose, DoNotFall};
 ghost use Rattle.sz_io.specs.Opened.{KeepsFiles};
 ghost use Rattle.sz_io.specs.Calls.{AppendsPart, GainsLine, NamesGain, ReadToEnd};
 ghost use Rattle.szl_explain.specs.Answers.{asked_in, code_of, line_of, status_of, ran_out, Answers, IsAnswer, OpensAsked};
@@ -82,6 +82,8 @@ pub fn explain_file<F: Files, O: Sink, E: Sink>(
     ensures end { result ≡ Status.Done → IfSome (asked_in (map string_bytes words.now)) (ReadToEnd F.Files files.old files.new) }
     ensures names { OpensAsked F.Files (asked_in (map string_bytes words.now)) result files.old files.new }
     ensures kept { KeepsFiles F.held F.left F.given F.faults files.old files.new }
+    ensures out_counts { DoNotFall O.faults O.refusals out.old out.new }
+    ensures err_counts { DoNotFall E.faults E.refusals err.old err.new }
 {
     let status = explain_words(alloc, words, files, out);
     write_line(err, status.line());
@@ -102,6 +104,7 @@ fn explain_words<F: Files, O: Sink>(
     ensures end { result ≡ Status.Done → IfSome (asked_in (map string_bytes words.now)) (ReadToEnd F.Files files.old files.new) }
     ensures names { OpensAsked F.Files (asked_in (map string_bytes words.now)) result files.old files.new }
     ensures kept { KeepsFiles F.held F.left F.given F.faults files.old files.new }
+    ensures out_counts { DoNotFall O.faults O.refusals out.old out.new }
 {
     let [name] = words else {
         return Status::Usage;
@@ -121,6 +124,7 @@ fn explain_named<F: Files, O: Sink>(alloc: Global, name: &str, files: &mut F, ou
     ensures end { result ≡ Status.Done → ReadToEnd F.Files files.old files.new name.now }
     ensures names { NamesGain (ran_out result) (F.names files.old) (F.names files.new) name.now }
     ensures kept { KeepsFiles F.held F.left F.given F.faults files.old files.new }
+    ensures out_counts { DoNotFall O.faults O.refusals out.old out.new }
 {
     match read_whole(alloc, files, name, MOST_PROGRAM_BYTES) {
         Ok(text) => write_explained(out, explain(alloc, &text)),
@@ -135,6 +139,7 @@ fn write_explained<O: Sink>(out: &mut O, explained: Result<Explanation, AllocErr
     ensures printed { Prints O.Sink explained result out.old out.new }
     ensures read { result ≡ Status.ReadFailed → ⊥ }
     ensures failed { result ≡ Status.WriteFailed → Rose (O.faults out.old) (O.faults out.new) }
+    ensures kept { DoNotFall O.faults O.refusals out.old out.new }
 {
     let Ok(explanation) = explained else {
         return Status::NoMemory;
@@ -161,6 +166,7 @@ fn write_both<O: Sink>(out: &mut O, line: &[u8], more: &[u8]) -> Result<(), Writ
     ensures whole { OnOk result (Appends (O.taken out.old) (O.taken out.new) (line.now ++ more.now)) }
     ensures part { OnErr result (AppendsPart (O.taken out.old) (O.taken out.new) (line.now ++ more.now)) }
     ensures failed { (n : ℕ) → result ≡ Err (WriteError.Failed n) → Rose (O.faults out.old) (O.faults out.new) }
+    ensures kept { DoNotFall O.faults O.refusals out.old out.new }
 {
     write_whole(out, line)?;
     write_whole(out, more)

@@ -53,12 +53,9 @@ fn number_at(source: Source<'_>, index: usize) -> Option<i64> {
 
 /// Whether a token has one of these spellings.
 fn is_spelled(source: Source<'_>, index: usize, words: &[&str]) -> bool {
-    for word in words {
-        if source.spelled(index) == word.as_bytes() {
-            return true;
-        }
-    }
-    false
+    words
+        .iter()
+        .any(|word| source.spelled(index) == word.as_bytes())
 }
 
 impl<'t> Fault<'t> {

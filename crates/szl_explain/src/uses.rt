@@ -10,6 +10,7 @@ pub enum Use {
     Kind,
     /// As a table that is emitted to.
     Table,
+    /// As a type.
     Type,
     /// Before arguments.
     Called,

@@ -66,12 +66,7 @@ fn say_expression(
 impl<'t, 'w> Found<'t, 'w> {
     /// Whether a value of this type can stand in the place of the expression.
     fn takes(&self, ty: &str) -> bool {
-        for wanted in self.wanted {
-            if *wanted == ty.as_bytes() {
-                return true;
-            }
-        }
-        false
+        self.wanted.iter().any(|wanted| *wanted == ty.as_bytes())
     }
 
     /// What is expected by the tokens round the expression, if that is more than types can say.

@@ -10,7 +10,7 @@ use std::io::{self, Input, Stderr, Stdout};
 use std::process::ExitCode;
 use std::thread::{Builder, Threads};
 use std::{env, thread};
-use sz_io::{OsFiles, OsSink};
+use sz_io::{OsFiles, OsSink, write_line};
 use szl_explain::{Status, explain_file};
 
 /// The words of the command line without the program's name. Words that aren't UTF-8 are no command line.
@@ -26,6 +26,12 @@ fn given_words(rt: &HostRuntime) -> Result<Vec<String>, AllocError> {
         Err(_) => {}
     }
     Ok(words)
+}
+
+/// Tells that there is no memory for the words of the command line or for the thread, and gives the exit status.
+fn tell_no_memory(err: Stderr) -> u8 {
+    write_line(&mut OsSink::new(err), b"out of memory\n");
+    Status::NoMemory.code()
 }
 
 /// Explains the program that these words name, over real files and streams, and gives the exit status.
@@ -52,7 +58,7 @@ fn main(rt: HostRuntime) -> ExitCode {
     let _streams = [stand_in(&rt), stand_in(&rt), stand_in(&rt)];
     let alloc: Global = rt.alloc();
     let Ok(words) = given_words(&rt) else {
-        return ExitCode::from(Status::NoMemory.code());
+        return ExitCode::from(tell_no_memory(rt.stderr()));
     };
     let code = thread::scope(thread::scope_env(), &rt, |scope| {
         for part in [1, 2, 4, 8] {
@@ -65,7 +71,7 @@ fn main(rt: HostRuntime) -> ExitCode {
                 return work.join(&rt);
             }
         }
-        Status::NoMemory.code()
+        tell_no_memory(rt.stderr())
     });
     ExitCode::from(code)
 }

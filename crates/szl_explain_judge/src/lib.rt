@@ -1,5 +1,5 @@
-//! Why a text is no program: its first refusal. Types and fields are found by trials: small changes of a program,
-//! of each of which that is asked.
+//! The first refusal of a program's text. And trials, which find the type of an expression or the fields of a value: small changes of the
+//! program, each of which is judged.
 #![tactic(auto)]
 
 mod judge;

@@ -40,9 +40,9 @@ pub struct Answer {
 
 impl Answer {
     /// Whether the changed part itself is refused for this cause.
-    pub fn is_refused_inside(&self, number: u8) -> bool {
+    pub fn is_refused_inside(&self, cause: Cause) -> bool {
         match &self.refusal {
-            Some(refusal) => refusal.place == self.inside && refusal.cause.number() == number,
+            Some(refusal) => refusal.place == self.inside && refusal.cause == cause,
             None => false,
         }
     }

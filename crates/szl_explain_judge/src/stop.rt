@@ -1,4 +1,4 @@
-//! Why a text is no program that can be judged further.
+//! Why the judgement of a text ends without a program.
 ghost use Rattle.std.specs.Prelude.{◌≡◌};
 
 use sz_check_rules::Cause;

@@ -61,7 +61,7 @@ impl<'t> Trial<'t> {
             after: b"",
         };
         let answer = probed(alloc, self.source, self.spot, change)?;
-        Ok(!answer.is_unclear() && !answer.is_refused_inside(Cause::NoField.number()))
+        Ok(!answer.is_unclear() && !answer.is_refused_inside(Cause::NoField))
     }
 
     /// Whether the program passes, at least to the end of this statement, where other text stands before the expression and after it.
@@ -81,10 +81,7 @@ impl<'t> Trial<'t> {
         if answer.is_unclear() {
             return Ok(!self.types_of(alloc)?.is_empty());
         }
-        Ok(
-            !answer.is_refused_inside(Cause::WrongType.number())
-                && !answer.is_refused_inside(Cause::NoType.number()),
-        )
+        Ok(!answer.is_refused_inside(Cause::WrongType) && !answer.is_refused_inside(Cause::NoType))
     }
 
     /// What is said of the program where a function of one parameter of this type takes the expression, and other text follows.
@@ -113,7 +110,7 @@ impl<'t> Trial<'t> {
             let after = joined(alloc, &[b"); ", self.text()])?;
             answer = self.taken(alloc, ty, &after)?;
         }
-        Ok(!answer.is_unclear() && !answer.is_refused_inside(Cause::WrongType.number()))
+        Ok(!answer.is_unclear() && !answer.is_refused_inside(Cause::WrongType))
     }
 
     /// The types of the expression among those that are tried. There are several where two names stand for one type.
@@ -199,13 +196,16 @@ pub fn fields_there<'t>(
     Ok(found)
 }
 
-/// The offset of the statement at the top level that a place stands in.
+/// The offset of the statement at the top level that a place stands in: the last one of those at `tops` that isn't after it.
 pub fn top_of(tops: &[Place], source: Source<'_>, place: Place) -> usize {
-    let mut found = 0;
+    let mut last = None;
     for top in tops {
         if !is_before(place, *top) {
-            found = source.start(source.token_at(*top));
+            last = Some(*top);
         }
     }
-    found
+    match last {
+        Some(top) => source.start(source.token_at(top)),
+        None => 0,
+    }
 }

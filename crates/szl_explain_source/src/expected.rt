@@ -66,12 +66,7 @@ pub fn tokens_of(name: &str) -> &str {
 
 /// Whether one of these begins with the token.
 pub fn any_begins_with(found: &[Expected], token: &[u8]) -> bool {
-    for expected in found {
-        if expected.begins_with(token) {
-            return true;
-        }
-    }
-    false
+    found.iter().any(|expected| expected.begins_with(token))
 }
 
 /// The tokens of a program up to a place, of which those from an index on, counted from 0, are the front of a statement.

@@ -223,12 +223,7 @@ pub fn word_of(kind: Kind) -> &'static [u8] {
 
 /// Whether one of these words, with a blank between two, is this one.
 pub fn has_word(words: &str, word: &[u8]) -> bool {
-    for one in words.split(' ') {
-        if one.as_bytes() == word {
-            return true;
-        }
-    }
-    false
+    words.split(' ').any(|one| one.as_bytes() == word)
 }
 
 /// What follows a symbol at a token, and whether the token is read by that; `None` where the token can't stand there.

@@ -43,13 +43,13 @@ impl Names {
     /// The first declaration of a name in the program, wherever it stands.
     pub fn first(&self, source: Source<'_>, name: &[u8]) -> Option<Declared> {
         for event in self.events.as_slice() {
-            if let NameChange::Declares(sort) = event.change {
-                if source.spelled(event.token) == name {
-                    return Some(Declared {
-                        sort,
-                        token: event.token,
-                    });
-                }
+            if let NameChange::Declares(sort) = event.change
+                && source.spelled(event.token) == name
+            {
+                return Some(Declared {
+                    sort,
+                    token: event.token,
+                });
             }
         }
         None
@@ -85,10 +85,10 @@ impl Names {
     ) -> Result<Option<Declared>, AllocError> {
         let open = self.open_at(alloc, token)?;
         for found in open.iter().rev() {
-            if let Some(declared) = found {
-                if source.spelled(declared.token) == name {
-                    return Ok(Some(*declared));
-                }
+            if let Some(declared) = found
+                && source.spelled(declared.token) == name
+            {
+                return Ok(Some(*declared));
             }
         }
         Ok(None)
@@ -135,10 +135,10 @@ impl Names {
         let name = source.spelled(token);
         let mut near: Vec<&'t [u8]> = Vec::new(alloc);
         for found in &self.open_at(alloc, token)? {
-            if let Some(declared) = found {
-                if wanted.sorts.contains(&declared.sort) {
-                    push_near(&mut near, source.spelled(declared.token), name)?;
-                }
+            if let Some(declared) = found
+                && wanted.sorts.contains(&declared.sort)
+            {
+                push_near(&mut near, source.spelled(declared.token), name)?;
             }
         }
         for word in wanted.words {

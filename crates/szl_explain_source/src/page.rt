@@ -46,10 +46,10 @@ impl Page {
     /// Appends words in which each `%` stands for a part of the program, which is quoted.
     pub fn fill(&mut self, words: &str, parts: &[&[u8]]) {
         for (at, piece) in words.split('%').enumerate() {
-            if at > 0 {
-                if let Some(part) = parts.get(at - 1) {
-                    self.quote(part);
-                }
+            if at > 0
+                && let Some(part) = parts.get(at - 1)
+            {
+                self.quote(part);
             }
             self.say(piece);
         }
@@ -68,12 +68,15 @@ impl Page {
         self.number(place.column as u64);
     }
 
-    /// Appends a byte of the program: the end of a line as a blank, and any other that controls a terminal as a question mark.
-    fn shown(&mut self, byte: u8) {
-        if (byte >= b' ' && byte != 127) || byte == b'\t' {
-            self.put(&[byte]);
-        } else {
-            self.say(if byte == b'\n' { " " } else { "?" });
+    /// Appends the byte of a part of the program that has this offset: the end of a line as a blank, and any other character that controls a
+    /// terminal as a question mark, also one from U+0080 to U+009F, which has two bytes.
+    fn shown(&mut self, bytes: &[u8], at: usize) {
+        match part(bytes, at, at.saturating_add(2)) {
+            [b'\n', ..] => self.say(" "),
+            [0..=8 | 10..=31 | 127, ..] | [0xc2, 0x80..=0x9f] => self.say("?"),
+            [0x80..=0x9f, ..] if part(bytes, at.saturating_sub(1), at) == b"\xc2".as_slice() => {}
+            [byte, ..] => self.put(&[*byte]),
+            [] => {}
         }
     }
 
@@ -85,7 +88,7 @@ impl Page {
                 self.say(" ..`");
                 return;
             }
-            self.shown(*byte);
+            self.shown(bytes, at);
         }
         self.say("`");
     }
@@ -130,8 +133,8 @@ impl Page {
         }
         self.number(place.line as u64);
         self.say(" | ");
-        for byte in line {
-            self.shown(*byte);
+        for at in 0..line.len() {
+            self.shown(line, at);
         }
         self.say("\n");
         let mut digits = Buffer::new();

@@ -4,9 +4,10 @@ use std::alloc::{AllocError, Global};
 use sz_lex::{Kind, Token};
 use sz_types::Place;
 
-/// The brackets that open, and those that close.
+/// The brackets that open.
 pub const OPENING: &str = "( [ {";
 
+/// The brackets that close.
 pub const CLOSING: &str = ") ] }";
 
 /// The text of a program, and its tokens, which are none where it has none.
@@ -116,10 +117,7 @@ impl<'t> Source<'t> {
 
     /// The kind of a token by its index.
     pub fn kind(&self, index: usize) -> Option<Kind> {
-        match self.tokens.get(index) {
-            Some(token) => Some(token.kind),
-            None => None,
-        }
+        Some(self.tokens.get(index)?.kind)
     }
 
     /// The place of a token; that of the end of the text where there is no such token.

@@ -91,8 +91,8 @@ impl Walk {
 
     /// Goes over tokens from an index on, as far as they can stand here, and gives the index of the first that can't.
     pub fn read_all(&mut self, tokens: &[Token], from: usize) -> Result<usize, AllocError> {
-        for (index, token) in tokens.iter().enumerate() {
-            if index >= from && !self.read(word_of(token.kind), index)? {
+        for (index, token) in tokens.iter().enumerate().skip(from) {
+            if !self.read(word_of(token.kind), index)? {
                 return Ok(index);
             }
         }

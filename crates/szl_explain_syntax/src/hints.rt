@@ -1,7 +1,16 @@
 //! What was often meant by a token that can't stand where it does.
 use crate::stuck::Stuck;
 
-/// Rows, of which the first counts that holds: conditions with `and` between them, which `holds` tells, and what is said.
+/// Rows, of which the first counts that holds: conditions with `and` between them, which `holds` tells, and what is said. Of the token:
+///
+/// - `start`, `second`, `third`: it is that one of its statement.
+/// - `at`, `before`, `first`, `next`: it, the token before it, the first one of the statement, the one after it is one of these.
+/// - `joined`: the one after it is one of these, with nothing between the two.
+/// - `spelled`, `after`: it, the token before it is spelled so.
+/// - `in`: the innermost bracket that is open before it is one of these, where `nothing` stands for none.
+/// - `takes`, `not`: all of these, none of these can stand in its place.
+/// - `alone`: one thing alone can.
+/// - `inside`: another token follows it in its line.
 const HINTS: &str = r#"start and at / => a comment begins with `#`, and ends with its line
 start and at ++ -- => `++` and `--` stand after a variable, as in `x++;`; a comment begins with `#`
 start and at ) ] } => nothing is open that it could close
@@ -88,12 +97,9 @@ pub fn hint(stuck: &Stuck<'_, '_>) -> Option<&'static str> {
 }
 
 fn all_hold(stuck: &Stuck<'_, '_>, conditions: &str) -> bool {
-    for condition in conditions.split(" and ") {
-        if !stuck.holds(condition) {
-            return false;
-        }
-    }
-    true
+    conditions
+        .split(" and ")
+        .all(|condition| stuck.holds(condition))
 }
 
 fn written_out(said: &'static str) -> &'static str {

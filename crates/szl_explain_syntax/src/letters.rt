@@ -1,4 +1,4 @@
-//! What is said of a text that has no tokens: a byte, a literal, its length.
+//! What is said of a text that has no tokens: of a byte, of a literal, or that it isn't UTF-8.
 use sz_types::Place;
 use szl_explain_source::{Page, part, place_of, text_from};
 
@@ -75,7 +75,7 @@ pub fn say_literal(page: &mut Page, text: &[u8], place: Place) {
     page.line(text, place, 1);
     match rest {
         [b'0', b'x' | b'X', ..] => page.say(
-            "A number to the base 16 has one or more digits after `0x`, is below 2^64, and has no letter after them.\n",
+            "A number to the base 16 has one or more digits after `0x` (a small `x`), is below 2^64, and has no letter after them.\n",
         ),
         [b'0', b'0'..=b'9', ..] => page.say(
             "A number has no 0 in front, unless it is 0. Hint: leave it out.\n",
@@ -156,12 +156,7 @@ fn is_escape(text: &[u8], is_string: bool) -> bool {
 
 /// Whether all of these are digits to the base 16.
 fn are_digits(bytes: &[u8]) -> bool {
-    for byte in bytes {
-        if !byte.is_ascii_hexdigit() {
-            return false;
-        }
-    }
-    true
+    bytes.iter().all(|byte| byte.is_ascii_hexdigit())
 }
 
 /// Shows which byte isn't UTF-8.

@@ -105,7 +105,8 @@ impl<'t, 'e> Stuck<'t, 'e> {
         match what {
             "next" => is_next,
             "joined" => is_next && self.source.end(self.at) == self.source.start(next),
-            _ => next < self.source.tokens.len() && !self.is_line_end(self.at),
+            "inside" => next < self.source.tokens.len() && !self.is_line_end(self.at),
+            _ => false,
         }
     }
 }

@@ -128,10 +128,7 @@ impl<'t, 'e> Stuck<'t, 'e> {
 
 /// Whether a token is a reserved word.
 fn is_word(source: Source<'_>, index: usize) -> bool {
-    match source.kind(index) {
-        Some(Kind::Word(_)) => true,
-        _ => false,
-    }
+    matches!(source.kind(index), Some(Kind::Word(_)))
 }
 
 /// Says that a word is no name.

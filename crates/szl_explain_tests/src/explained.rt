@@ -123,6 +123,13 @@ const PAGES: &[Page] = &[
         b"program: not UTF-8 at 1:6$refusal 3$1 | # caf\xe9$  |      ^$The text is UTF-8 up to the byte e9. Hint: `iconv -f latin1 -t utf-8` makes UTF-8 of Latin-1.$",
         "",
     ),
+    (
+        b"x\x1b\xc2\x9b\xc3\x9b: int = 1;$",
+        "p",
+        2,
+        b"program: bad character at 1:2$refusal 1$1 | x??\xc3\x9b: int = 1;$  |  ^$No token begins with `?`: it stands in strings and comments alone.$",
+        "",
+    ),
     (b"", "--help", 1, b"", "bad command line\n"),
     (b"", "", 1, b"", "bad command line\n"),
 ];

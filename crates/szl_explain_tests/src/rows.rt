@@ -8,6 +8,7 @@ pub const TEXTS: &str =
 x: string = “a”; => bad character at 1:13 => 1 => in its place write `"`
 x: int = 007; => bad literal at 1:10 => 2 => no 0 in front
 x: int = 0xg; => bad literal at 1:10 => 2 => base 16 has one or more digits after `0x`
+x: int = 0X1F; => bad literal at 1:10 => 2 => after `0x` (a small `x`), is below 2^64
 x: int = 0x10000000000000000; => bad literal at 1:10 => 2 => is below 2^64
 x: int = 9223372036854775808; => bad literal at 1:10 => 2 => at most 9223372036854775807
 x: int = 12ab; => bad literal at 1:10 => 2 => `a` follows them
