@@ -12,9 +12,9 @@ pub struct Job {
     pub statics: Slots,
     /// The ticks that a record may take: 1 to 2^32.
     pub budget: u64,
-    /// How many records that fault are passed over.
+    /// How many records that fault are passed over at most.
     pub skip: u32,
-    /// The number of attempts on a shard.
+    /// The most attempts on a shard: 1 to 8.
     pub attempts: u32,
     /// The attempts that die.
     pub kills: Kills,

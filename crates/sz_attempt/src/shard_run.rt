@@ -91,7 +91,7 @@ fn death_of(kills: &[Kill], shard_no: u64, number: u32, count: usize) -> Option<
     }
 }
 
-/// After how many records the attempt is to die, by the first of the entries of the list to have effect.
+/// After how many records the attempt is to die: the least number that the list has for it.
 fn least_kill(kills: &[Kill], shard_no: u64, number: u32) -> Option<u32>
     ensures value { result ≡ least_of (kills_of shard_no number kills.now) }
 {

@@ -9,7 +9,8 @@ use sz_io::OutsideError;
 pub enum OpenError {
     /// The first entry is that of another job.
     OtherJob,
-    /// An entry behind an open gate isn't whole, isn't of the format, or has no gate behind it. This is the place of its gate.
+    /// An entry behind an open gate isn't whole, isn't of the format, or has no gate behind it. The number is the place of that gate: the
+    /// byte of the disk, counted from 0.
     Damaged(u64),
     /// The disk failed, and its count of faults rose.
     Failed,

@@ -61,7 +61,7 @@ impl Journal {
         &self.rounds
     }
 
-    /// The place of the gate behind which the last round's entry stands.
+    /// The gate behind which the last round's entry stands: the byte of the disk, counted from 0.
     pub fn last_gate(&self) -> u64
         requires { 0 < length (rounds_of self.now) }
         ensures value { result ≡ last_gate self.now }

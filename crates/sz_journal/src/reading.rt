@@ -18,7 +18,7 @@ use sz_gates::{AtGate, read_gate};
 use sz_journal_format::{EntryError, JobBytes, may_be_next, read_job, read_round};
 use sz_types::TableDecls;
 
-// Whether a disk of `count` bytes begins with the entry of the job, which this is. It doesn't where it holds no entry.
+// Whether a disk of `count` bytes begins with `own`, the entry of the job; false where the disk holds no entry.
 pub(crate) fn has_job<K: Disk>(
     alloc: Global,
     disk: &mut K,
@@ -146,7 +146,7 @@ fn take_round(
     ensures value { FitsTaken job.now decls.now journal.old journal.new entry.now result }
 {
     let gate = journal.end();
-    // No round passes over more records, so that each that may be the next one has its bytes.
+    // its type has 32 bits, and no round passes over more
     let _most_passed = job.skip;
     match read_round(alloc, entry) {
         Ok(round) => {

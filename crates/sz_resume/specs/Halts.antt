@@ -12,11 +12,11 @@ no_memory = Stopped stops.NoMemory
 abbrev pub read_failed : Halt
 read_failed = Stopped stops.ReadFailed
 
--- a disk that can't be written
+-- the halt for an append that the disk failed, or for which there was no memory
 abbrev pub of_disk : OutsideError → Halt
 of_disk outside.Failed = DiskFailed
 of_disk outside.NoMemory = no_memory
 
--- a file that can't be read
+-- the halt for a read that failed, or for which there was no memory
 abbrev pub of_file : OutsideError → Halt
 of_file error = Stopped (stop_of error)

@@ -49,7 +49,7 @@ impl From<Stop> for Halt {
     }
 }
 
-/// The halt of a disk that can't be written.
+/// The halt for an append that the disk failed, or for which there was no memory.
 pub(crate) fn of_disk(error: OutsideError) -> Halt
     ensures value { result ≡ halts.of_disk error }
 {
@@ -59,7 +59,7 @@ pub(crate) fn of_disk(error: OutsideError) -> Halt
     }
 }
 
-/// The halt of a file that can't be read.
+/// The halt for a read that failed, or for which there was no memory.
 pub(crate) fn of_file(error: OutsideError) -> Halt
     ensures value { result ≡ halts.of_file error }
 {

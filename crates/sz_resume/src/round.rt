@@ -57,6 +57,7 @@ pub(crate) fn round_entry<'a>(
     let done = intake.done_with(passed);
     let bound = (done.records - intake.records_run()) * job.budget;
     let saved = save(alloc, tables, job.compiled.tables(), bound)?;
+    // a saved state tells that it can be saved
     let _ = saved.bound();
     Ok(RoundEntry {
         next_shard: done.shards,

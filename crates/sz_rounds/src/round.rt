@@ -8,7 +8,7 @@ use sz_total::Total;
 pub struct Round {
     /// The records at hand. Those of the round are the records of its shards.
     pub records: Records,
-    /// The shards, in order.
+    /// The shards, in order: at most 4,096.
     pub shards: ShardRanges,
     /// The number of the first of them in the input, counted from 0.
     pub first_shard: u64,

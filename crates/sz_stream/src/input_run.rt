@@ -223,7 +223,7 @@ pub fn run_at_hand<'a, R: Threads + Sync, G: Gate + Sync>(
         (outcome_from job.now intake.now.round.passed (shards_of intake.now.round)) stop) }
     ensures read { IsErrOf result Stop.ReadFailed → ⊥ }
 {
-    // no more records are passed over than a number of this type says
+    // the type of this number bounds how many are passed over
     let _skip = job.skip;
     match run_round(rt, alloc, job, &intake.round, workers, gate)? {
         RoundEnd::Tables(part, passed) => Ok((part, passed)),

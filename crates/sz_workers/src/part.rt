@@ -121,6 +121,7 @@ impl<'a, N: RoundName> RoundPart<'a, N> {
         requires decls { decls.now ≡ all_tables N.job.compiled }
         ensures value { IfOk result (λ part. HoldsShards N.job N.round part.total part.first []) }
     {
+        // the plan is for the contract alone
         let _ = plan;
         let total = Total::new(alloc, decls)?;
         Ok(RoundPart {
@@ -131,8 +132,8 @@ impl<'a, N: RoundName> RoundPart<'a, N> {
     }
 }
 
-/// A lane that stands for no shards, of a round with this plan and a job with these declarations. Its large tables are dealt out to parts as
-/// the parts of shards come, where other workers fill lanes at the same time: they are then all dealt out when they are poured together.
+/// A lane that stands for no shards, of a round with this plan and a job with these declarations. Where other workers fill lanes at the
+/// same time (`others`), its large tables are dealt out to parts as it takes in the parts of shards.
 pub(crate) fn empty_lane<'a, N: RoundName>(
     alloc: Global,
     plan: &Plan,

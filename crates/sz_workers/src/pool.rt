@@ -40,7 +40,7 @@ pub(crate) fn empty_pool<'a, N: RoundName>(
     })
 }
 
-/// Takes in lanes, none of whose shards is there yet, or in another of them, each in at most so many threads.
+/// Takes in the parts of lanes, one after the other, each in at most so many threads. No shard stands in two lanes, or in the pool already.
 pub(crate) fn pour_all<'a, R: Threads + Sync, N: RoundName>(
     rt: &R,
     threads: u32,

@@ -186,9 +186,10 @@ fn run_left<'a, G: Gate, N: RoundName>(
     }
 }
 
-/// The end of a round whose workers are done, with what all of them won in the pool. A shard that none of them settled is lost, as
-/// the words tell; or it is run here, in order, until one decides: so the first that was marked comes to its fault. No ticket of the
-/// plan is drawn for it, and the gate is told the number after the last.
+/// The end of a round whose workers are done, with what all of them won in the pool. A shard that none of them settled is lost where
+/// the words tell that all its attempts died; else it is run here. This goes in order until one decides, so a shard that a worker
+/// reported as bad is run again, and its fault comes of that. No ticket of the plan is drawn for it: the gate is told the number after
+/// the last one.
 pub(crate) fn finish<'a, G: Gate, N: RoundName>(
     alloc: Global,
     job: &'a Job,

@@ -20,7 +20,9 @@ use sz_machine::Room;
 use sz_rounds::Round;
 
 /// Draws tickets of the ledger until none is left, and runs their attempts. The part of a shard that it wins goes into the lane with
-/// this number where that is home, and else into the pocket that is given back. The gate is called before each attempt.
+/// this number where no other worker has it, and else into the pocket that is given back. The gate is called before each attempt.
+///
+/// `Err` comes where there was no memory: then a ticket may be left on its way, and the pass has no lane.
 pub fn work<'a, N: RoundName, G: Gate + Sync>(
     alloc: Global,
     job: &'a Job,

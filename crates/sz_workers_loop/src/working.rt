@@ -13,7 +13,7 @@ use sz_book::{Claim, Lane, Load, NoMemory, Receipt, Settled};
 use sz_claims::{Ledger, Pass};
 
 /// Draws tickets until none is left, and runs their attempts. The part of each shard that it wins goes into the lane with this number
-/// where that is home, and else into the pocket. It stops where there is no memory.
+/// where no other worker has it, and else into the pocket. It stops where there is no memory.
 pub fn work<T: Load, M: Maker<T>>(
     maker: &mut M,
     ledger: &Ledger<T>,
@@ -135,7 +135,7 @@ fn settle<T: Load>(
     }
 }
 
-// Puts the part of a shard that was just won into the lane with this number, or into the pocket where that lane is out.
+// Puts the part of a shard that was just won into the lane with this number, or into the pocket where another worker has that lane.
 fn keep<T: Load>(
     ledger: &Ledger<T>,
     pass: &mut Pass<T>,
