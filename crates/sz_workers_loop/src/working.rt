@@ -169,8 +169,5 @@ fn put<T: Load>(lane: &mut Lane<T>, receipt: Receipt, part: T) -> Result<(), NoM
     requires fresh { ¬ IsAmong receipt.shard lane.old.shards }
     ensures value { lane.new ≡ longer_by lane.old (added_by result receipt.shard) }
 {
-    match lane.put(receipt, part) {
-        Ok(()) => Ok(()),
-        Err(_) => Err(NoMemory),
-    }
+    lane.put(receipt, part).map_err(|_| NoMemory)
 }
