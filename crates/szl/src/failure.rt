@@ -30,9 +30,10 @@ pub enum Failure {
     Faulted(u64, Fault),
     /// All attempts on a shard died. Shards are numbered from 0.
     Lost(u64),
-    /// The input is damaged where a record would begin, at this byte from 0.
+    /// The input is damaged where a record would begin, at this byte, counted from 0.
     Damaged(u64),
-    /// The input passes a limit where a record would begin, or a file to be joined goes on, at this byte from 0.
+    /// The input passes a limit where a record would begin, at this byte, counted from 0; or a file to be joined has a byte of this number,
+    /// which is one too many.
     Limit(u64),
     /// The file with this number among those to be joined, counted from 1, holds no saved tables.
     BadTables(u64),
@@ -44,7 +45,7 @@ pub enum Failure {
     BadProtoFile(FileFault),
     /// The journal is that of another job.
     OtherJob,
-    /// The journal is damaged after the gate at this place, or the input is shorter than the round after that says.
+    /// The journal is damaged behind the gate at this byte of it, counted from 0; or the input is shorter than the round behind that gate says.
     JournalDamaged(u64),
     /// The disk of the journal failed.
     DiskFailed,

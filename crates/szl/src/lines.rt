@@ -1,4 +1,4 @@
-//! The lines that name the byte of an input, a file to be joined, a record that faults, or a shard that is lost.
+//! The lines that name a byte of an input or of a journal, a file to be joined, a record that faults, or a shard that is lost.
 ghost use Rattle.std.specs.Prelude.{◌≡◌, ◌++◌, ◌∷◌, [], IfOk, decimal, slice_index_or};
 ghost use Rattle.sz_machine.specs.Ends.{seen_fault};
 ghost use Rattle.szl.specs.Answers.{lost_line, damaged_line, limit_line, bad_tables_line, other_tables_line, tables_limit_line, journal_damaged_line, fault_texts, fault_line};

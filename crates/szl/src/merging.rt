@@ -114,6 +114,7 @@ fn output_of_all(alloc: Global, merging: Merging, save: bool) -> Result<Vec<u8>,
 fn output_of(alloc: Global, all: &Saved, save: bool) -> Result<Vec<u8>, NoMemory>
     ensures value { IfOk result (λ output. output.items ≡ merged_output save all.now) }
 {
+    // a saved state tells that it has as many tables as declarations
     let _ = all.bound();
     let octets = if save {
         write_saved(alloc, all)?

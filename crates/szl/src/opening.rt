@@ -11,7 +11,7 @@ use crate::failure::Failure;
 use std::alloc::Global;
 use sz_io::{Files, ReadError, read_whole};
 
-/// Reads a whole file of at most `limit` bytes; `past` is the failure where it has more, any but that of reading.
+/// Reads a whole file of at most `limit` bytes. `past` is the failure for a file with more; it isn't `ReadFailed`.
 pub fn read_text<F: Files>(
     alloc: Global,
     files: &mut F,

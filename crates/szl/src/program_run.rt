@@ -33,7 +33,7 @@ use sz_stream::{InputTables, run_bytes, run_file};
 use sz_value::{NoMemory, Slots};
 use sz_words::RunSettings;
 
-/// The statics of the program, all of them with so many ticks.
+/// The values of the program's statics, which have `budget` ticks together. A fault of one is a fault of record 0.
 pub fn statics_of(alloc: Global, compiled: &Compiled, budget: u64) -> Result<Slots, Failure>
     requires least { 1 ≤ budget }
     requires most { budget ≤ 2 ^ 32 }

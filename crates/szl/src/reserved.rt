@@ -17,10 +17,10 @@ use sz_protofile_types::NamedTypes;
 use sz_tree::{Name, Stmt, Tree};
 use sz_types::Place;
 
-/// The name of the table of lines, which no program may declare that is to ignore undefined values.
+/// The name of the table that counts lines: a program that is to ignore undefined values declares no table of this name.
 const RESERVED_NAME: &str = "_undefs";
 
-/// The checked program that the tree is where these types are known, which is to be run ignoring undefined values or not.
+/// The checked program of the tree, with these types known to it. With `ignoring` it is refused where a table has the reserved name.
 pub fn runnable(
     alloc: Global,
     tree: &Tree,

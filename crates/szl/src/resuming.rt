@@ -291,6 +291,7 @@ fn text_of(alloc: Global, all: &Saved) -> Result<Vec<u8>, NoMemory>
         → IfOk result (λ text. text.items ≡ tables_text decls emits) }
 {
     saved_runs_join();
+    // a saved state tells that it has as many tables as declarations
     let _ = all.bound();
     text_held(alloc, all)
 }

@@ -26,8 +26,8 @@ use sz_tree::Tree;
 use sz_types::{TableDecl, Text};
 use sz_value::NoMemory;
 
-/// The checked program that the tree is where these types are known, to be run so that its tables are saved or not, and ignoring undefined
-/// values or not.
+/// The checked program of the tree, with these types known to it. With `save` it is refused where a table has too many levels for a saved
+/// file, with `ignoring` where a table has the reserved name.
 pub fn savable(
     alloc: Global,
     tree: &Tree,
