@@ -44,11 +44,10 @@ impl Stack {
 
 /// Whether the token adds a level to a type that it stands in.
 fn adds_level(token: &Token) -> bool {
-    match token.kind {
-        Kind::Word(Word::Type) | Kind::Word(Word::Array) | Kind::Word(Word::Map) => true,
-        Kind::Sign(Sign::OpenBrace) => true,
-        _ => false,
-    }
+    matches!(
+        token.kind,
+        Kind::Word(Word::Type | Word::Array | Word::Map) | Kind::Sign(Sign::OpenBrace)
+    )
 }
 
 /// Whether the types that are declared in these tokens are low, with all names written out: such a type is at most as high as all their
@@ -72,76 +71,84 @@ fn are_declared_low(tokens: &[Token]) -> bool {
 /// How many parts may still be gone through after those of the type, if it has at most this height; none where it is higher, or has more parts than
 /// may be gone through.
 #[cycle(height)]
-fn past_type(ty: &Ty, most: u32, left: u32) -> Option<u32> {
+fn parts_left_after_type(ty: &Ty, most: u32, left: u32) -> Option<u32> {
     if most == 0 || left == 0 {
         return None;
     }
     match ty {
         Ty::Bool | Ty::Int | Ty::Time | Ty::Str | Ty::Bytes => Some(left - 1),
-        Ty::Array(element) => past_type(element, most - 1, left - 1),
-        Ty::Map(key, value) => past_type(value, most - 1, past_type(key, most - 1, left - 1)?),
-        Ty::Tuple(fields) | Ty::Proto(fields) => past_fields(fields.as_slice(), most - 1, left - 1),
+        Ty::Array(element) => parts_left_after_type(element, most - 1, left - 1),
+        Ty::Map(key, value) => parts_left_after_type(
+            value,
+            most - 1,
+            parts_left_after_type(key, most - 1, left - 1)?,
+        ),
+        Ty::Tuple(fields) | Ty::Proto(fields) => parts_left_after_fields(
+            fields.as_slice(),
+            most - 1,
+            left - 1,
+        ),
     }
 }
 
 /// The same after the types of the fields.
 #[cycle(height)]
-fn past_fields(fields: &[Field], most: u32, left: u32) -> Option<u32> {
+fn parts_left_after_fields(fields: &[Field], most: u32, left: u32) -> Option<u32> {
     let mut left = left;
     for field in fields {
-        left = past_type(&field.ty, most, left)?;
+        left = parts_left_after_type(&field.ty, most, left)?;
     }
     Some(left)
 }
 
 /// The same after the types, if they are low.
-fn past_types(types: &[Ty], left: u32) -> Option<u32> {
+fn parts_left_after_types(types: &[Ty], left: u32) -> Option<u32> {
     let mut left = left;
     for ty in types {
-        left = past_type(ty, LOW, left)?;
+        left = parts_left_after_type(ty, LOW, left)?;
     }
     Some(left)
 }
 
 /// The same after the types of a table.
-fn past_table(table: &TableDecl, left: u32) -> Option<u32> {
+fn parts_left_after_table(table: &TableDecl, left: u32) -> Option<u32> {
     let left = match &table.weight {
-        Some(ty) => past_type(ty, LOW, left)?,
+        Some(ty) => parts_left_after_type(ty, LOW, left)?,
         None => left,
     };
-    past_types(
+    parts_left_after_types(
         table.indexes.as_slice(),
-        past_type(&table.element, LOW, left)?,
+        parts_left_after_type(&table.element, LOW, left)?,
     )
 }
 
 /// The same after the types that an item declares.
-fn past_item(item: &Item, left: u32) -> Option<u32> {
+fn parts_left_after_item(item: &Item, left: u32) -> Option<u32> {
     match item {
-        Item::Table(table) => past_table(table, left),
-        Item::Function(function) => past_types(
+        Item::Table(table) => parts_left_after_table(table, left),
+        Item::Function(function) => parts_left_after_types(
             function.locals.as_slice(),
-            past_type(&function.signature.result, LOW, left)?,
+            parts_left_after_type(&function.signature.result, LOW, left)?,
         ),
-        Item::Static(of) => past_type(&of.ty, LOW, left),
+        Item::Static(of) => parts_left_after_type(&of.ty, LOW, left),
         Item::Statement(_) => Some(left),
     }
 }
 
 /// The same after the types that the program declares.
-fn past_program(program: &Program, left: u32) -> Option<u32> {
+fn parts_left_after_program(program: &Program, left: u32) -> Option<u32> {
     let mut left = left;
     for item in program.items() {
-        left = past_item(item, left)?;
+        left = parts_left_after_item(item, left)?;
     }
-    past_types(program.locals().as_slice(), left)
+    parts_left_after_types(program.locals().as_slice(), left)
 }
 
 /// Whether the types with these names are low. A `.proto` file has at most 100,000 fields with all names written out, so all parts are gone through.
 fn are_named_low(types: &[NamedType]) -> bool {
     let mut left = MOST_PARTS;
     for named in types {
-        match past_type(&named.ty, LOW, left) {
+        match parts_left_after_type(&named.ty, LOW, left) {
             Some(rest) => left = rest,
             None => return false,
         }
@@ -151,7 +158,7 @@ fn are_named_low(types: &[NamedType]) -> bool {
 
 /// Whether all types that the program declares are seen to be low: the answer is no, too, where they have more parts than are gone through.
 pub fn declares_low(program: &Program) -> bool {
-    past_program(program, MOST_PARTS).is_some()
+    parts_left_after_program(program, MOST_PARTS).is_some()
 }
 
 /// How many workers run a program, of so many that are asked for: where not all types that it declares and converts to are seen to be low, it is
@@ -161,8 +168,11 @@ pub fn workers_for(declares_low: bool, compiled: &Compiled, workers: u32) -> u32
     requires most { workers ≤ 64 }
     ensures some { 1 ≤ result }
     ensures most { result ≤ 64 }
+    ensures within { result ≤ workers }
 {
-    if declares_low && past_types(compiled.code().types.as_slice(), MOST_PARTS).is_some() {
+    if declares_low
+        && parts_left_after_types(compiled.code().types.as_slice(), MOST_PARTS).is_some()
+    {
         workers
     } else {
         1

@@ -88,7 +88,7 @@ fn with_file<F: Files>(
         files,
         name,
         MOST_SAVED_BYTES,
-        Failure::Limit(1 << 40),
+        Failure::Limit(MOST_SAVED_BYTES as u64),
     )?;
     match merging.add(alloc, &bytes) {
         Ok(more) => Ok(more),

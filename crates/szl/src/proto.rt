@@ -19,11 +19,14 @@ use sz_io::Files;
 use sz_protofile_laws::{field_names_are_names, file_types_are_sound};
 use sz_protofile_rules::Fault as FileFault;
 use sz_protofile_types::{NamedTypes, ProtoError, read_proto};
-use sz_refusals::{push_name, push_place};
-use sz_types::{Place, Text};
+use sz_refusals::{FIRST_PLACE, push_name, push_place};
+use sz_types::Text;
 
 /// The most bytes of the file.
 const MOST_FILE_BYTES: usize = 1_048_576;
+
+/// The number of the refusal of a file with more bytes.
+const TOO_LONG: u8 = 1;
 
 /// A `.proto` file: its bytes and its types.
 #[derive(Drop)]
@@ -37,8 +40,8 @@ fn too_long() -> Failure
     ensures value { result ≡ past_file }
 {
     Failure::BadProtoFile(FileFault {
-        number: 1,
-        place: Place { line: 1, column: 1 },
+        number: TOO_LONG,
+        place: FIRST_PLACE,
         name: None,
     })
 }
@@ -174,7 +177,7 @@ fn file_text(number: u8) -> &'static str
     ensures value { result.now ≡ slice_index_or file_texts number [] }
 {
     match number {
-        1 => "too long",
+        TOO_LONG => "too long",
         2 => "syntax",
         3 => "declared twice",
         4 => "bad field number",

@@ -88,6 +88,8 @@ pub fn szl_main_on<R: Threads + Sync, F: Files, O: Sink, E: Sink, G: Gate + Sync
 
     ensures read_failed { result ≡ Status.ReadFailed → Rose (F.faults files.old) (F.faults files.new) }
     ensures write_failed { result ≡ Status.WriteFailed → Rose (O.faults out.old) (O.faults out.new) }
+    ensures complete { (Rose (F.faults files.old) (F.faults files.new) → ⊥) → (Rose (O.faults out.old) (O.faults out.new) → ⊥)
+        → Completes F.Files O.Sink E.Sink (map string_bytes words.now) result files.old files.new out.old out.new err.old err.new }
 
     ensures kept { KeepsFiles F.held F.left F.given F.faults files.old files.new }
     ensures out_counts { DoNotFall O.faults O.refusals out.old out.new }
@@ -165,6 +167,10 @@ pub fn szl_disk_main_on<R: Threads + Sync, F: Files, O: Sink, E: Sink, G: Gate +
     ensures read_failed { result ≡ Status.ReadFailed → Rose (F.faults files.old) (F.faults files.new) }
     ensures write_failed { result ≡ Status.WriteFailed → Rose (O.faults out.old) (O.faults out.new) }
     ensures disk_failed { result ≡ Status.DiskFailed → Rose (K.faults disk.old) (K.faults disk.new) }
+    ensures complete { (Rose (F.faults files.old) (F.faults files.new) → ⊥) → (Rose (O.faults out.old) (O.faults out.new) → ⊥)
+        → ByCommand (settings_in (map string_bytes words.now)) (λ s. (Rose (K.faults disk.old) (K.faults disk.new) → ⊥)
+        → CompletesJob F.Files O.Sink E.Sink K.Disk s result files.old files.new out.old out.new err.old err.new disk.old)
+        (Completes F.Files O.Sink E.Sink (map string_bytes words.now) result files.old files.new out.old out.new err.old err.new) }
 
     ensures kept { KeepsFiles F.held F.left F.given F.faults files.old files.new }
     ensures out_counts { DoNotFall O.faults O.refusals out.old out.new }

@@ -12,7 +12,7 @@ use std::process::ExitCode;
 use std::thread::{Builder, Threads};
 use std::{env, thread};
 use sz_disk::OsDisk;
-use sz_io::{NoGate, OsFiles, OsSink, write_whole};
+use sz_io::{NoGate, OsFiles, OsSink, write_line};
 use szl::{Stack, Status, szl_disk_main_on};
 
 /// The words of the command line without the program's name. Words that aren't UTF-8 are no command line.
@@ -32,7 +32,7 @@ fn given_words(rt: &HostRuntime) -> Result<Vec<String>, AllocError> {
 
 /// Tells that there is no memory for the words of the command line.
 fn tell_no_memory(err: Stderr) -> ExitCode {
-    let _ = write_whole(&mut OsSink::new(err), b"out of memory\n");
+    write_line(&mut OsSink::new(err), b"out of memory\n");
     ExitCode::from(Status::NoMemory.code())
 }
 

@@ -2,8 +2,8 @@
 use Rattle.std.proofs.Common.{◌+◌, ◌*◌}
 use Rattle.szl.proofs.heights.+height.Given as goal
 
-abbrev pub decreases-past_type : goal.decreases-past_type
-decreases-past_type l = 2 * l.most
+abbrev pub decreases-parts_left_after_type : goal.decreases-parts_left_after_type
+decreases-parts_left_after_type l = 2 * l.most
 
-abbrev pub decreases-past_fields : goal.decreases-past_fields
-decreases-past_fields l = 2 * l.most + 1
+abbrev pub decreases-parts_left_after_fields : goal.decreases-parts_left_after_fields
+decreases-parts_left_after_fields l = 2 * l.most + 1

@@ -1,14 +1,16 @@
-use Rattle.std.proofs.Common.{◌≡◌, ◌∙◌, sym, ap, subst, map}
+use Rattle.std.proofs.Common.{◌≡◌, ◌∙◌, sym, ap, subst, map, rules}
 use Rattle.std.specs.Prelude.{string_bytes, Err}
 use Rattle.sz_io.specs.Rose.{Rose}
 use Rattle.sz_words.specs.Settings.{settings_in}
+use Rattle.szl.specs.declared.status.Status.TheVariants as status
 use Rattle.szl.specs.Opening.{status_of_answer}
 use Rattle.szl.specs.Promise.{MeansSource}
 use Rattle.szl.specs.ProgramRuns.{vec_items_of}
 use Rattle.szl.specs.ResumePromise.{ByCommand, MeansJob, KeepsJournal}
 use Rattle.szl.proofs.MainLemmas.{means_done, means_failure}
+use Rattle.szl.proofs.CompleteLemmas.{completes}
 use Rattle.szl.proofs.SavedLemmas.{printed_saves}
-use Rattle.szl.proofs.ResumedMainLemmas.{job_done, job_failed, each_command, keeps_under, printed_done, read_told, write_told}
+use Rattle.szl.proofs.ResumedMainLemmas.{job_done, job_failed, each_command, completes_job, keeps_under, printed_done, read_told, write_told}
 use Rattle.szl.proofs.KeepLemmas.{not_done}
 use Rattle.szl.proofs.top.szl_disk_main_on.Goals as goal
 
@@ -89,3 +91,29 @@ returns-in-Err-clause-write_failed g c is =
     (g.O.Sink.taken c.args.out.now) (g.O.Sink.taken c.print.new.out) c.in-Err.ensures.value
     (Rose (g.O.Sink.faults c.args.out.now) (g.O.Sink.faults c.print.new.out)) (λ same. c.in-Err.ensures.failed (ap Err same))
     (sym c.status.ensures.value ∙ is)
+
+pub returns-in-Err-clause-disk_failed : goal.returns-in-Err-clause-disk_failed
+returns-in-Err-clause-disk_failed g c = search rules
+
+-- so where none was counted, and none of the disk, none stands in the outcome's place
+pub returns-in-Err-clause-complete : goal.returns-in-Err-clause-complete
+returns-in-Err-clause-complete g c no_read no_write =
+    let words = map string_bytes c.args.words.now in
+    each_command (settings_in words) _ _ _ _
+    (λ s m no_disk. completes_job g.F.Files g.O.Sink g.E.Sink g.K.Disk s c.status.result c.args.files.now c.answer_on_disk-answer.new.files
+    c.args.out.now c.print.new.out c.args.err.now c.tell.new.err c.args.disk.now m (λ is. no_read (returns-in-Err-clause-read_failed g c is))
+    (λ is. no_write (returns-in-Err-clause-write_failed g c is)) (λ is. no_disk (returns-in-Err-clause-disk_failed g c is)))
+    (λ m. completes g.F.Files g.O.Sink g.E.Sink words c.status.result c.args.files.now c.answer_on_disk-answer.new.files c.args.out.now
+    c.print.new.out c.args.err.now c.tell.new.err m (λ is. no_read (returns-in-Err-clause-read_failed g c is))
+    (λ is. no_write (returns-in-Err-clause-write_failed g c is)))
+    (returns-in-Err-clause-outcome g c)
+
+pub returns-in-Ok-clause-complete : goal.returns-in-Ok-clause-complete
+returns-in-Ok-clause-complete g c no_read no_write =
+    let words = map string_bytes c.args.words.now in
+    each_command (settings_in words) _ _ _ _
+    (λ s m no_disk. completes_job g.F.Files g.O.Sink g.E.Sink g.K.Disk s status.Done c.args.files.now c.answer_on_disk-answer.new.files
+    c.args.out.now c.print.new.out c.args.err.now c.args.err.now c.args.disk.now m (λ is. cc) (λ is. cc) (λ is. cc))
+    (λ m. completes g.F.Files g.O.Sink g.E.Sink words status.Done c.args.files.now c.answer_on_disk-answer.new.files c.args.out.now
+    c.print.new.out c.args.err.now c.args.err.now m (λ is. cc) (λ is. cc))
+    (returns-in-Ok-clause-outcome g c)
