@@ -1,11 +1,11 @@
 -- What parts weigh together, and a composite of them.
-use Rattle.std.proofs.Common.{◌≡◌, ◌∙◌, ℕ, zero, suc, ◌+◌, ◌-◌, ◌^◌, ◌<◌, ◌≤◌, List, [], ◌∷◌, length, drop, get_or, true, Some, None, is_some, refl, sym, ap, arith}
+use Rattle.std.proofs.Common.{◌≡◌, ◌∙◌, ℕ, ◌+◌, ◌-◌, ◌^◌, ◌<◌, ◌≤◌, List, [], ◌∷◌, true, Some, None, is_some, refl, sym, ap, arith}
 use Rattle.std.specs.Prelude.{min}
 use Rattle.std.specs.List.{list_all}
 use Rattle.sz_value.specs.Data.{Datum, data_of}
 use Rattle.sz_value.specs.Weight.{weight_of, data_weight}
 use Rattle.sz_world_rules.specs.Slots.{Slot, all_defined}
-use Rattle.sz_world_rules.specs.Ticks.{result_weight, weight_of_all}
+use Rattle.sz_world_rules.specs.Ticks.{weight_of_all}
 use Rattle.sz_world_rules.specs.Emits.{weight_if_all}
 use Rattle.sz_machine_cells.specs.Results.{defined_of, slots_weight, composite_weight}
 use Rattle.sz_machine_cells.proofs.ListLemmas.{are_all}
@@ -19,13 +19,6 @@ defined_weigh (Some d ∷ xs) = ap (λ n. weight_of d + n) (defined_weigh xs)
 -- where all are defined, they weigh as much as their values
 pub all_weigh : (xs : List Slot) → list_all is_some xs ≡ true → slots_weight xs ≡ weight_if_all (all_defined xs)
 all_weigh xs all = defined_weigh xs ∙ ap weight_if_all (sym (are_all xs all))
-
--- one part more is weighed
-pub one_weighed : (xs : List Slot) (i : ℕ) (x : Slot) → i < length xs → x ≡ get_or xs i x
-    → slots_weight (drop i xs) ≡ result_weight x + slots_weight (drop (suc i) xs)
-one_weighed [] i x less is = absurd (omega (arith, less))
-one_weighed (y ∷ ys) zero x less is = ap (λ z. result_weight z + slots_weight ys) (sym is)
-one_weighed (y ∷ ys) (suc i) x less is = one_weighed ys i x (omega (arith, less)) is
 
 -- where the weights together are within bounds, none of them was cut
 uncut : (ds : List Datum) → weight_of_all ds < 2 ^ 64 - 1 → data_weight (data_of ds) ≡ weight_of_all ds

@@ -41,6 +41,14 @@ impl Octets {
         Ok(Octets { bytes })
     }
 
+    /// Hands the bytes over, which are not copied.
+    pub fn into_vec(self) -> Vec<u8>
+        ensures value { result.items ≡ self }
+    {
+        let Octets { bytes } = self;
+        bytes
+    }
+
     /// The bytes, in order.
     pub fn as_slice(&self) -> &[u8]
         ensures value { result.now ≡ self.now }
