@@ -12,7 +12,7 @@ use std::alloc::Global;
 use sz_disk::Disk;
 use sz_gates::append;
 use sz_io::OutsideError;
-use sz_journal_format::{NoMemory, RoundEntries, RoundEntry, copy_round, write_round};
+use sz_journal_format::{NoMemory, RoundEntries, RoundEntry, write_round};
 
 /// How many bytes a gate and a length have, which stand in front of an entry.
 pub(crate) const FRONT_BYTES: u64 = 9;
@@ -91,19 +91,19 @@ impl Journal {
     }
 
     /// Writes a round behind the last gate, and opens this gate once that is synced. After an error the journal has to be opened again.
-    pub fn append<K: Disk>(&mut self, disk: &mut K, round: &RoundEntry) -> Result<(), OutsideError>
-        requires can { CanAppend self.old (K.bytes disk.old) round.now }
+    pub fn append<K: Disk>(&mut self, disk: &mut K, round: RoundEntry) -> Result<(), OutsideError>
+        requires can { CanAppend self.old (K.bytes disk.old) round }
 
-        ensures rounds { OnOk result (rounds_of self.new ≡ rounds_of self.old ++ round.now ∷ []) }
+        ensures rounds { OnOk result (rounds_of self.new ≡ rounds_of self.old ++ round ∷ []) }
         ensures is_of { OnOk result ((job : JobBytes) → IsOf job self.old → IsOf job self.new) }
         ensures ok { (job : JobBytes) (decls : List Declaration) (held : List ℕ) → K.bytes disk.old ≡ Some held → IsOf job self.old
-            → Spells job decls held (rounds_of self.old) → AreRounds job decls (rounds_of self.old ++ round.now ∷ [])
-            → OnOk result (KeepsRounds (K.bytes disk.new) (K.may_leave disk.new) job decls (rounds_of self.old ++ round.now ∷ [])) }
+            → Spells job decls held (rounds_of self.old) → AreRounds job decls (rounds_of self.old ++ round ∷ [])
+            → OnOk result (KeepsRounds (K.bytes disk.new) (K.may_leave disk.new) job decls (rounds_of self.old ++ round ∷ [])) }
 
         ensures leaves { (job : JobBytes) (decls : List Declaration) (held : List ℕ) → Rests (K.bytes disk.old) (K.may_leave disk.old) held
-            → IsOf job self.old → Spells job decls held (rounds_of self.old) → AreRounds job decls (rounds_of self.old ++ round.now ∷ [])
+            → IsOf job self.old → Spells job decls held (rounds_of self.old) → AreRounds job decls (rounds_of self.old ++ round ∷ [])
             → are_told (K.may_leave disk.old) ≡ true
-            → LeavesOnly K.time K.left_since disk.old disk.new (SpellsOneOf job decls (rounds_of self.old) round.now) }
+            → LeavesOnly K.time K.left_since disk.old disk.new (SpellsOneOf job decls (rounds_of self.old) round) }
         ensures told { are_told (K.may_leave disk.new) ≡ are_told (K.may_leave disk.old) }
         ensures untold { K.bytes disk.old ≡ None → K.bytes disk.new ≡ None }
 
@@ -111,9 +111,8 @@ impl Journal {
 
         ensures faults { DoesNotFall (K.faults disk.old) (K.faults disk.new) }
     {
-        let entry = write_round(self.alloc, round)?;
-        let copy = copy_round(self.alloc, round)?;
-        self.rounds.push(copy)?;
+        let entry = write_round(self.alloc, &round)?;
+        self.rounds.push(round)?;
         let next = append(self.alloc, disk, self.end, &entry)?;
         self.last = self.end;
         self.end = next;

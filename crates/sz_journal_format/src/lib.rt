@@ -19,6 +19,6 @@ pub use job::{JobBytes, Numbers, Triple, Triples};
 pub use laws::{one_job, one_round};
 pub use progress::{Progress, last_progress};
 pub use reading::{read_job, read_round};
-pub use round::{RoundEntries, RoundEntry, copy_round};
+pub use round::{RoundEntries, RoundEntry};
 pub use sz_value::NoMemory;
 pub use writing::{write_job, write_round};

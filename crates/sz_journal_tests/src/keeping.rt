@@ -77,12 +77,12 @@ fn is_added(
     disk: &mut MemDisk,
     job: &JobBytes,
     decls: &TableDecls,
-    round: &RoundEntry,
+    round: RoundEntry,
 ) -> bool
     requires { IsReady job.now decls.now journal.old disk.old }
     ensures { IsTrue result → IsReady job.now decls.now journal.new disk.new }
 {
-    if !may_be_next(job, decls, journal.rounds(), round) {
+    if !may_be_next(job, decls, journal.rounds(), &round) {
         return false;
     }
     match journal.append(disk, round) {
@@ -103,7 +103,7 @@ fn is_step_added(
     ensures { IsTrue result → IsReady job.now decls.now journal.new disk.new }
 {
     match read_saved(alloc, step.saved) {
-        Ok(saved) => is_added(journal, disk, job, decls, &round_of(step, saved)),
+        Ok(saved) => is_added(journal, disk, job, decls, round_of(step, saved)),
         Err(_) => false,
     }
 }

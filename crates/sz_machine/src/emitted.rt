@@ -1,5 +1,6 @@
 //! The emits of a run, in room that is kept.
 ghost use Rattle.std.specs.Prelude.{◌≡◌, ◌<◌, ◌≤◌, ◌++◌, ◌∷◌, [], None, length, take, OnOk, OnErr};
+ghost use Rattle.sz_value.specs.Data.{int};
 ghost use Rattle.sz_value.specs.Seen.{seen};
 
 use std::alloc::Global;
@@ -9,7 +10,7 @@ use sz_tabs::{Emit, Emits};
 use sz_value::{List, NoMemory, Value};
 
 /// The emits of a run so far. Those of runs before stand behind them or are spare. The next emit is written over one of them, and takes over the room
-/// of its index list; where the old value and the new one are whole numbers, nothing has to be dropped.
+/// of its index list.
 ///
 /// Contracts see the list of the run's own emits.
 pub struct Emitted {
@@ -88,6 +89,18 @@ impl Emitted {
     {
         open(alloc, &mut self.emits, self.count, &mut self.spare)?;
         fill_alone(&mut self.emits[self.count], table, value);
+        self.count += 1;
+        Ok(())
+    }
+
+    /// Appends an emit of a whole number, with neither indexes nor a weight.
+    #[inline(always)]
+    pub fn push_number(&mut self, alloc: Global, table: u32, number: i64) -> Result<(), NoMemory>
+        ensures ok { OnOk result (self.new ≡ self.old ++ record { table = table; indexes = []; value = int number; weight = None } ∷ []) }
+        ensures err { OnErr result (self.new ≡ self.old) }
+    {
+        open(alloc, &mut self.emits, self.count, &mut self.spare)?;
+        fill_with_number(&mut self.emits[self.count], table, number);
         self.count += 1;
         Ok(())
     }
@@ -181,6 +194,28 @@ fn fill_alone(emit: &mut Emit, table: u32, value: Value)
     empty(&mut emit.indexes);
     emit.value = value;
     emit.weight = None;
+}
+
+// Makes it the emit of a whole number with neither indexes nor a weight.
+#[inline(always)]
+fn fill_with_number(emit: &mut Emit, table: u32, number: i64)
+    ensures value { emit.new ≡ record { table = table; indexes = []; value = int number; weight = None } }
+{
+    emit.table = table;
+    empty(&mut emit.indexes);
+    put_number(&mut emit.value, number);
+    emit.weight = None;
+}
+
+// Puts a whole number in the stead of a value: in place where that is one too, so that nothing is dropped.
+#[inline(always)]
+fn put_number(value: &mut Value, number: i64)
+    ensures value { seen value.new ≡ int number }
+{
+    match value {
+        Value::Int(old) => *old = number,
+        other => *other = Value::Int(number),
+    }
 }
 
 // Makes it the emit of a value under one index, without a weight.

@@ -146,11 +146,7 @@ impl<'a> RunState<'a> {
         let Some(number) = self.operands.top().int() else {
             return false;
         };
-        if self
-            .emits
-            .push_alone(alloc, table, Value::Int(number))
-            .is_err()
-        {
+        if self.emits.push_number(alloc, table, number).is_err() {
             return false;
         }
         self.operands.drop_one();

@@ -39,12 +39,9 @@ fn name_message(
 ) -> Result<(), NoMemory>
     ensures ok { OnOk result (names.new ≡ with_declared names.old (message_by (spelled bytes.now) around.now line.now)) }
 {
-    match message_by(alloc, bytes, around, line)? {
-        Some(scope) => {
-            let Scope { full, joined: _ } = scope;
-            names.add(full.into_string())?;
-        }
-        None => {}
+    if let Some(scope) = message_by(alloc, bytes, around, line)? {
+        let Scope { full, joined: _ } = scope;
+        names.add(full.into_string())?;
     }
     Ok(())
 }
@@ -72,9 +69,8 @@ fn take_message(
 ) -> Result<(), NoMemory>
     ensures ok { OnOk result (messages.new.items ≡ messages.old.items ++ option_to_list (message_by (spelled bytes.now) around.now line.now)) }
 {
-    match message_by(alloc, bytes, around, line)? {
-        Some(scope) => messages.push(scope)?,
-        None => {}
+    if let Some(scope) = message_by(alloc, bytes, around, line)? {
+        messages.push(scope)?;
     }
     Ok(())
 }

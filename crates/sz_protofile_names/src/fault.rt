@@ -239,9 +239,8 @@ fn first_fault(
 {
     let mut before = Before::new(alloc);
     for line in lines {
-        match take_line(alloc, bytes, known, &mut before, line)? {
-            Some(fault) => return Ok(Some(fault)),
-            None => {}
+        if let Some(fault) = take_line(alloc, bytes, known, &mut before, line)? {
+            return Ok(Some(fault));
         }
     }
     Ok(None)

@@ -68,10 +68,8 @@ fn found_around(
     let mut left = around.len();
     while left > 0 {
         left -= 1;
-        let told = found_inside(alloc, names, hashes, &around[left], word)?;
-        match told {
-            Some(name) => return Ok(Some(name)),
-            None => {}
+        if let Some(name) = found_inside(alloc, names, hashes, &around[left], word)? {
+            return Ok(Some(name));
         }
     }
     Ok(None)

@@ -206,10 +206,7 @@ fn fill_round<F: Files>(
     ensures failed { IsErrOf result (Halt.Stopped Stop.ReadFailed) → Rose (F.faults files.old) (F.faults files.new) }
     ensures kept { KeepsOtherFiles F.held F.left F.given F.names F.faults file files.old files.new }
 {
-    match fill(intake, files, file, buffer) {
-        Ok(()) => Ok(()),
-        Err(error) => Err(of_file(error)),
-    }
+    fill(intake, files, file, buffer).map_err(of_file)
 }
 
 /// Runs the next round by so many workers, appends it to the journal, and moves on after it.
@@ -260,7 +257,7 @@ fn run_next<R: Threads + Sync, G: Gate + Sync, K: Disk>(
 {
     let (tables, passed) = run_at_hand(rt, alloc, job, workers, intake, gate)?;
     let round = round_entry(alloc, job, intake, &tables, passed)?;
-    match journal.append(disk, &round) {
+    match journal.append(disk, round) {
         Ok(()) => {
             intake.move_on(passed);
             Ok(())

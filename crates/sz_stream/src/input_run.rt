@@ -244,10 +244,9 @@ fn merge<'a, R: Threads + Sync>(
     requires room { total.old.count + part.count ≤ 2 ^ 63 }
     ensures ok { OnOk result (Joins declarations emit_count shown total.old part.entry total.new) }
 {
-    match total.absorb_by(rt, threads as usize, part) {
-        Ok(()) => Ok(()),
-        Err(_) => Err(NoMemory),
-    }
+    total
+        .absorb_by(rt, threads as usize, part)
+        .map_err(|_| NoMemory)
 }
 
 /// The tables of an input that ends so, after its last round and so many records.

@@ -134,9 +134,9 @@ fn complete<'a, G: Gate, N: RoundName>(
         return Ok(None);
     }
     let first = round.shards.get(place as usize).first;
-    match one_in_front(job, round, pool.part.first.faults.as_slice(), first) {
-        Some(one) => return Ok(Some(fault_end(one))),
-        None => {}
+    let faults = pool.part.first.faults.as_slice();
+    if let Some(one) = one_in_front(job, round, faults, first) {
+        return Ok(Some(fault_end(one)));
     }
     if all_died(*deaths.get(place as usize), job.attempts) {
         return Ok(Some(RoundEnd::Lost(round.first_shard + u64::from(place))));
@@ -209,11 +209,10 @@ pub(crate) fn finish<'a, G: Gate, N: RoundName>(
 {
     let mut room = Room::new(alloc);
     for place in 0..plan.shards() {
-        match complete(
+        if let Some(end) = complete(
             alloc, &mut room, job, round, plan, gate, settled, deaths, &mut pool, place,
         )? {
-            Some(end) => return Ok(end),
-            None => {}
+            return Ok(end);
         }
     }
     tables_forget_the_order();

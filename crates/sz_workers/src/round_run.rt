@@ -1,7 +1,8 @@
 //! Rounds, run by workers.
-ghost use Rattle.std.specs.Prelude.{◌≡◌, ◌+◌, ◌<◌, ◌≤◌, [], length, IfOk};
+ghost use Rattle.std.specs.Prelude.{◌≡◌, ◌+◌, ◌<◌, ◌≤◌, [], length, min, max, IfOk};
 ghost use denote.Param.Send.{IsSend, IsSync};
 ghost use Rattle.sz_mean.specs.Marked.{all_tables};
+ghost use Rattle.sz_book_rules.specs.Plan.{count_of};
 ghost use Rattle.sz_claims.specs.Known.{LedgerData, AreEmpty};
 ghost use Rattle.sz_attempt.specs.Shards.{IsJob};
 ghost use Rattle.sz_rounds.specs.Outcomes.{outcome_from};
@@ -67,7 +68,8 @@ fn run_named<'a, R: Threads + Sync, G: Gate + Sync, N: RoundName + Send + Sync>(
     ensures value { IfOk result (λ end.
         EndsRound job.now.compiled (outcome_from job.now round.now.passed (shards_of round.now)) end) }
 {
-    let (mut closed, pockets) = run_all::<R, G, N>(rt, alloc, job, round, plan, workers, gate)?;
+    let useful = useful_workers(plan, workers);
+    let (mut closed, pockets) = run_all::<R, G, N>(rt, alloc, job, round, plan, useful, gate)?;
     let lanes = mem::replace(&mut closed.lanes, Vec::new(alloc));
     let mut pool = empty_pool(alloc, plan, job.compiled.tables())?;
     pour_all(rt, workers, &mut pool, lanes)?;
@@ -82,6 +84,15 @@ fn run_named<'a, R: Threads + Sync, G: Gate + Sync, N: RoundName + Send + Sync>(
         &closed.deaths,
         pool,
     )
+}
+
+// How many of so many workers find a ticket, or one where there is none.
+fn useful_workers(plan: &Plan, workers: u32) -> u32
+    requires some { 1 ≤ workers }
+    ensures value { result ≡ max (min (count_of plan.now) workers) 1 }
+    ensures within { (1 ≤ result) × (result ≤ workers) }
+{
+    plan.ticket_count().min(workers as usize).max(1) as u32
 }
 
 // Runs the workers of a round over a ledger of its own: what they leave.

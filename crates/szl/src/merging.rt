@@ -121,5 +121,5 @@ fn output_of(alloc: Global, all: &Saved, save: bool) -> Result<Vec<u8>, NoMemory
     } else {
         text_rows(alloc, all.decls(), all.tables())?
     };
-    Vec::from_slice(alloc, octets.as_slice())
+    Ok(octets.into_vec())
 }

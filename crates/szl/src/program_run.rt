@@ -179,5 +179,5 @@ fn saved(alloc: Global, job: &Job, tables: &InputTables) -> Result<Vec<u8>, NoMe
     let bound = tables.records * job.budget;
     let saved = save(alloc, &tables.total, job.compiled.tables(), bound)?;
     let bytes = write_saved(alloc, &saved)?;
-    Vec::from_slice(alloc, bytes.as_slice())
+    Ok(bytes.into_vec())
 }

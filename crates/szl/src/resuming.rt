@@ -302,7 +302,7 @@ fn text_held(alloc: Global, all: &Saved) -> Result<Vec<u8>, NoMemory>
     ensures value { IfOk result (λ text. text.items ≡ lists_text all.now.decls all.now.tables) }
 {
     let text = text_rows(alloc, all.decls(), all.tables())?;
-    Vec::from_slice(alloc, text.as_slice())
+    Ok(text.into_vec())
 }
 
 /// What the journal says of the job that the settings ask for, with these texts of the program and of the file of types.

@@ -13,9 +13,9 @@ returns-in-Some c = record {
 
 pub loop-line-preserved : goal.loop-line-preserved
 loop-line-preserved c =
-    ap (λ (b : Before). first_fault (spelled c.args.bytes.now) c.args.known.now b (drop (c.loop-line.line-index + 1) c.args.lines.now)) (c.in_ok-fault.ensures.taken c.in-None.is)
+    ap (λ (b : Before). first_fault (spelled c.args.bytes.now) c.args.known.now b (drop (c.loop-line.line-index + 1) c.args.lines.now)) (c.in_ok-fault.ensures.taken c.in_default.is)
     ∙ sym (fault_step (spelled c.args.bytes.now) c.args.lines.now c.loop-line.line-index _ c.loop-line-test.true c.args.known.now (seen_before c.loop-line.before)
-    (sym c.in_ok-fault.ensures.fault ∙ c.in-None.is))
+    (sym c.in_ok-fault.ensures.fault ∙ c.in_default.is))
     ∙ c.loop-line.invariant
 
 pub returns : goal.returns

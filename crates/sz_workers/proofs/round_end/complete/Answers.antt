@@ -34,7 +34,7 @@ returns-in-Some-clause-value g c =
     let round = c.args.round.now in
     let pool = c.args.pool.now in
     let shard = c.get-2.result.now in
-    let same = ap (λ faults. in_front shard.first (one_too_many job round faults)) c.as_slice.ensures.value in
+    let same = ap (λ faults. in_front shard.first (one_too_many job round faults)) c.as_slice-faults.ensures.value in
     subst (EndsRound job.compiled (outcome_from job round.passed (shards_of round))) (sym c.fault_end.ensures.value)
     (front_decides g.N.RoundName.job g.N.RoundName.round job round c.args.plan.now c.requires.set pool.part.total pool.part.first pool.shards
     c.args.place c.requires.holds c.requires.pooled.front shard c.get-2.ensures.value c.in-Some.one
@@ -47,10 +47,10 @@ returns-then-all_died-clause-value g c =
     let round = c.args.round.now in
     let pool = c.args.pool.now in
     let shard = c.get-2.result.now in
-    let same = ap (λ faults. in_front shard.first (one_too_many job round faults)) c.as_slice.ensures.value in
+    let same = ap (λ faults. in_front shard.first (one_too_many job round faults)) c.as_slice-faults.ensures.value in
     let none = none_in_front g.N.RoundName.job g.N.RoundName.round job round c.args.plan.now c.requires.set pool.part.total pool.part.first
     pool.shards c.args.place c.requires.holds c.requires.pooled.front shard c.get-2.ensures.value
-    (sym same ∙ sym c.one_in_front.ensures.value ∙ c.in-None.is) in
+    (sym same ∙ sym c.one_in_front.ensures.value ∙ c.in_default.is) in
     let is = word_at c.args.deaths.now c.args.place c.get-3.result.now c.get-3.ensures.value in
     let all = word_tells _ c.get-3.result.now (2 ^ job.attempts - 1) c.all_died.result is c.all_died.ensures.value c.if-all_died.true in
     lost_by_words g.N.RoundName.job g.N.RoundName.round job round c.args.plan.now c.requires.set c.args.settled.now c.args.deaths.now c.args.place
@@ -69,9 +69,9 @@ run_left-requires-clause-open g c =
     let round = c.args.round.now in
     let pool = c.args.pool.now in
     let shard = c.get-2.result.now in
-    let same = ap (λ faults. in_front shard.first (one_too_many job round faults)) c.as_slice.ensures.value in
+    let same = ap (λ faults. in_front shard.first (one_too_many job round faults)) c.as_slice-faults.ensures.value in
     none_in_front g.N.RoundName.job g.N.RoundName.round job round c.args.plan.now c.requires.set pool.part.total pool.part.first pool.shards
-    c.args.place c.requires.holds c.requires.pooled.front shard c.get-2.ensures.value (sym same ∙ sym c.one_in_front.ensures.value ∙ c.in-None.is)
+    c.args.place c.requires.holds c.requires.pooled.front shard c.get-2.ensures.value (sym same ∙ sym c.one_in_front.ensures.value ∙ c.in_default.is)
 
 -- it is in the pool now
 pub returns-clause-pooled : goal.returns-clause-pooled
