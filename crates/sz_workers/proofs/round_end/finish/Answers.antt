@@ -21,7 +21,7 @@ returns-in-Some-one_too_many g c =
 
 pub count_of-requires : goal.count_of-requires
 count_of-requires g c = record {
-  few = few_skipped c.args.job.now c.args.round.now c.as_slice-faults.result.now (sym c.one_too_many.ensures.value ∙ c.in-None-one_too_many.is);
+  few = few_skipped c.args.job.now c.args.round.now c.as_slice-faults.result.now (sym c.one_too_many.ensures.value ∙ c.in-None.is);
 }
 
 -- all shards are in the pool, and none decides
@@ -35,6 +35,6 @@ returns g c =
       value = tables_end g.N.RoundName.job g.N.RoundName.round job round c.args.plan.now c.requires.set l.pool.part.total l.pool.part.first
           l.pool.shards l.place l.invariant.0 l.invariant.1.front c.tables_forget_the_order.ensures.same
           (omega (arith, c.loop-place-test.false, c.shards-place-end.ensures.value))
-          (sym same ∙ sym c.one_too_many.ensures.value ∙ c.in-None-one_too_many.is) c.count_of.result
+          (sym same ∙ sym c.one_too_many.ensures.value ∙ c.in-None.is) c.count_of.result
           (c.count_of.ensures.value ∙ ap length c.as_slice-faults.ensures.value);
     }
