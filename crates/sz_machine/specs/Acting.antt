@@ -153,6 +153,10 @@ pub record IsCovered (code : Code) (instr : Instr) (h : RunState) : Type 0 where
 abbrev pub in_record : ℕ → List Slot → Slot → Around
 in_record at statics input = record { at = at; statics = statics; input = input }
 
+-- the place of the next line, and the record
+abbrev pub IsAt : ℕ → Slot → Around → Type 0
+IsAt at input a = (a.at ≡ at) × (a.input ≡ input)
+
 -- around the run of a static
 abbrev pub in_static : ℕ → List Slot → Around
 in_static at statics = record { at = at; statics = statics; input = None }

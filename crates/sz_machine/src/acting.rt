@@ -1,12 +1,13 @@
 //! What a line does.
-ghost use Rattle.std.specs.Prelude.{◌≡◌, ◌<◌, ℕ, length, IfOk, IsSome};
+ghost use Rattle.std.specs.Prelude.{◌≡◌, ◌<◌, ◌≤◌, ◌+◌, ◌-◌, ◌^◌, ℕ, length, true, false, IfOk, IsSome};
 ghost use Rattle.sz_instr.specs.declared.instr.Instr.TheVariants as instr;
 ghost use Rattle.sz_instr.specs.declared.code.Code.{Code};
 ghost use Rattle.sz_types.specs.declared.place.Place.{Place};
 ghost use Rattle.sz_machine_rules.specs.Rows.{act};
 ghost use Rattle.sz_machine_rules.specs.Covering.{Covers};
 ghost use Rattle.sz_machine.specs.Acting.{DoesFromTo, DoesWhere, state_of, weighs_and_acts, base_charge, TakesCandidate};
-ghost use Rattle.sz_machine.specs.Acting.{IsInside, IsApart, IsCovered, in_record, in_static};
+ghost use Rattle.sz_machine.specs.Acting.{IsInside, IsApart, IsCovered, Paid, in_record, in_static};
+ghost use Rattle.sz_machine.specs.declared.run_state.RunState.{RunState};
 
 use crate::run_state::{Onward, RunState, if_paid, rebuilt};
 use std::alloc::Global;
@@ -52,6 +53,26 @@ impl<'a> RunState<'a> {
     {
         self.operands.push_copy(input)?;
         Ok(Onward::On)
+    }
+
+    /// The whole charge of a line was taken, or not all of it was left. Nothing is due where no candidate is left: what was taken then
+    /// comes back. Whether what is due is taken.
+    #[inline(always)]
+    pub fn settle(&mut self, paid: bool, charge: u32, instr: &Instr) -> bool
+        requires lists { TakesCandidate instr.now → 0 < length self.old.calls.lists }
+        requires room { paid ≡ true → self.old.left + charge ≤ 2 ^ 64 - 1 }
+        ensures value { (before : RunState) → Paid charge before paid self.old → (paid ≡ false → self.old ≡ before)
+            → Paid (base_charge charge instr.now self.old.calls.lists) before result self.new }
+    {
+        match instr {
+            Instr::Next(_, _) if self.calls.is_used_up() => {
+                if paid {
+                    self.left += u64::from(charge);
+                }
+                true
+            }
+            _ => paid,
+        }
     }
 
     /// The charge of a line, of which nothing is taken where no candidate is left.

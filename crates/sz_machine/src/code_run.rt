@@ -117,7 +117,9 @@ impl<'a> RunState<'a> {
           calls = record { locals = undefined_slots routine.now.locals; lists = []; callers = [] };
         }) }
     {
-        self.operands.clear();
+        if self.operands.len() > 0 {
+            self.operands.clear();
+        }
         self.calls.begin(routine.locals)
     }
 
@@ -137,12 +139,14 @@ impl<'a> RunState<'a> {
             LineDoes code.now (in_record at statics.now input.now) (in_record at statics.now input.now) self.old next self.new) }
     {
         let line = line_at(code, at);
-        let charge = self.base_charge(line.charge, &line.instr);
-        if !self.pay(charge) {
-            return Ok(Onward::Fault(BUDGET_PASSED));
+        let paid = self.pay(u64::from(line.charge));
+        if paid {
+            if let Some(next) = self.act_quickly(alloc, code, input, at, &line.instr) {
+                return Ok(next);
+            }
         }
-        if let Some(next) = self.act_quickly(alloc, code, at, &line.instr) {
-            return Ok(next);
+        if !self.settle(paid, line.charge, &line.instr) {
+            return Ok(Onward::Fault(BUDGET_PASSED));
         }
         self.act_in_record(alloc, code, statics, input, at, line.place, &line.instr)
     }

@@ -246,6 +246,9 @@ fn put_aside(emits: &mut Vec<Emit>, count: usize, spare: &mut Vec<Emit>)
     requires within { count ≤ length emits.old.items }
     ensures value { emits.new.items ≡ take count emits.old.items }
 {
+    if emits.len() == count {
+        return;
+    }
     while emits.len() > count && spare.len() < MOST_KEPT {
         let Some(emit) = emits.pop() else {
             break;

@@ -5,12 +5,12 @@ ghost use Rattle.sz_instr.specs.declared.code.Code.{Code};
 ghost use Rattle.sz_types.specs.declared.place.Place.{Place};
 ghost use Rattle.sz_instr.specs.declared.instr.Instr.TheVariants as instr;
 ghost use Rattle.sz_machine_rules.specs.Rows.{act, indexes_in, store};
-ghost use Rattle.sz_machine.specs.Acting.{DoesIf, DoesWhere, IsCovered, on_if, weighs_and_acts};
+ghost use Rattle.sz_machine.specs.Acting.{DoesIf, DoesWhere, IsAt, IsCovered, TakesCandidate, on_if, weighs_and_acts};
 
 use crate::run_state::{Onward, RunState};
 use std::alloc::Global;
 use sz_instr::{Code, Instr, Steps};
-use sz_machine_cells::of_ints;
+use sz_machine_cells::{Cell, of_ints};
 use sz_types::BinOp;
 use sz_value::Value;
 
@@ -21,24 +21,28 @@ impl<'a> RunState<'a> {
         &mut self,
         alloc: Global,
         code: &'a Code,
+        input: &Cell<'a>,
         at: usize,
         instr: &Instr,
     ) -> Option<Onward>
         requires room { at < usize.MAX }
         requires covers { IsCovered code.now instr.now self.old }
         ensures done { IfSome result (λ next. (place : Place) →
-            DoesWhere place (λ a. a.at ≡ at) (weighs_and_acts code.now instr.now) self.old next self.new) }
+            DoesWhere place (IsAt at input.now) (weighs_and_acts code.now instr.now) self.old next self.new) }
+        ensures common { IfSome result (λ next. TakesCandidate instr.now → ⊥) }
         ensures left { IfNone result (self.new ≡ self.old) }
     {
         match instr {
             Instr::Push(n) => on_if(self.push_constant(code, *n)),
             Instr::Local(n) => on_if(self.push_copy_of(*n)),
+            Instr::Input => self.push_record(input),
             Instr::Binary(op) => on_if(self.binary_of_ints(*op)),
             Instr::Keep(n) => on_if(self.keep_int(*n)),
             Instr::Store(n, path) => on_if(self.store_int(*n, path)),
             Instr::Test(to, _) => self.test_truth(at, *to),
             Instr::Jump(to) => Some(Onward::To(*to)),
             Instr::Tick => Some(Onward::On),
+            Instr::EndRecord => Some(Onward::End),
             Instr::Apply(which) => on_if(self.apply_to_octets(*which)),
             Instr::Convert(ty) => on_if(self.read_number(code, *ty)),
             Instr::Slice => on_if(self.cut()),
@@ -69,6 +73,19 @@ impl<'a> RunState<'a> {
         match local.int() {
             Some(number) => self.operands.push_int(number),
             None => self.operands.push_copy(local).is_ok(),
+        }
+    }
+
+    // Pushes the bytes of the record, which cells share, if there is memory.
+    #[inline(always)]
+    fn push_record(&mut self, input: &Cell<'a>) -> Option<Onward>
+        ensures done { (code : Code) (at : ℕ) → IfSome result (λ next. (place : Place) →
+            DoesWhere place (IsAt at input.now) (act code instr.Input) self.old next self.new) }
+        ensures left { IfNone result (self.new ≡ self.old) }
+    {
+        match self.operands.push_copy(input) {
+            Ok(()) => Some(Onward::On),
+            Err(_) => None,
         }
     }
 

@@ -1,5 +1,5 @@
 //! The state of a run, which lines change.
-ghost use Rattle.std.specs.Prelude.{◌≡◌, ◌<◌, drop, IfOk};
+ghost use Rattle.std.specs.Prelude.{◌≡◌, ◌≤◌, ◌+◌, ◌-◌, ◌^◌, true, false, IfOk};
 ghost use Rattle.sz_machine.specs.Acting.{Paid, Does, results, if_paid, if_passed};
 
 use crate::emitted::Emitted;
@@ -48,6 +48,8 @@ impl<'a> RunState<'a> {
     #[inline(always)]
     pub fn pay(&mut self, ticks: u64) -> bool
         ensures value { Paid ticks self.old result self.new }
+        ensures room { result ≡ true → self.new.left + ticks ≤ 2 ^ 64 - 1 }
+        ensures left { result ≡ false → self.new ≡ self.old }
     {
         if ticks > self.left {
             return false;

@@ -117,10 +117,7 @@ impl<'a> Calls<'a> {
         requires within { n < length self.old.locals }
         ensures value { self.new ≡ record self.old { locals = slice_set self.old.locals n (Some (int number)) } }
     {
-        match self.local(n).int() {
-            Some(_) => self.put(n, Cell::of_int(number)),
-            None => self.keep(n, Cell::of_int(number)),
-        }
+        self.put(n, Cell::of_int(number));
     }
 
     // Puts the cell into a local.
@@ -129,7 +126,8 @@ impl<'a> Calls<'a> {
         requires within { n < length self.old.locals }
         ensures value { self.new ≡ record self.old { locals = slice_set self.old.locals n cell.entry } }
     {
-        self.cells[self.locals_from + n as usize] = cell;
+        let before = mem::replace(&mut self.cells[self.locals_from + n as usize], cell);
+        before.forget();
     }
 
     /// Takes what a local holds. It is undefined from then on.

@@ -344,6 +344,15 @@ impl<'a> Cell<'a> {
         }
     }
 
+    /// Forgets the cell, with what it owns. One that takes no memory is forgotten in line.
+    #[inline(always)]
+    pub(crate) fn forget(self) {
+        match self.form {
+            Form::Undefined | Form::Bool(_) | Form::Int(_) | Form::Time(_) => {}
+            form => forget(Cell { form }),
+        }
+    }
+
     /// The slot itself. Its value is copied where another cell shares it.
     pub fn into_slot(self, alloc: Global) -> Result<Slot, NoMemory>
         ensures value { IfOk result (λ slot. seen_slot slot ≡ self.entry) }
@@ -390,6 +399,10 @@ pub(crate) fn scalar<'a>(value: &Value) -> Option<Cell<'a>>
         _ => None,
     }
 }
+
+// Forgets the cell, out of line.
+#[inline(never)]
+fn forget(_cell: Cell<'_>) {}
 
 // The truth value that a value is, if it is one.
 fn truth_in(view: &View<'_>) -> Option<bool>

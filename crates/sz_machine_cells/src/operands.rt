@@ -11,7 +11,7 @@ ghost use Rattle.sz_world_rules.specs.Operations.{map_of};
 ghost use Rattle.sz_world_rules.specs.Ticks.{result_weight};
 ghost use Rattle.sz_machine_cells.specs.Results.{defined_of, slots_weight, composite_weight, IsCut};
 
-use crate::cell::{Cell, Form};
+use crate::cell::Cell;
 use crate::maps::map_within;
 use crate::weights::result_weight;
 use std::alloc::Global;
@@ -115,8 +115,11 @@ impl<'a> Operands<'a> {
         ensures ok { OnOk result (self.new ≡ cell.now ∷ self.old) }
         ensures err { OnErr result (self.new ≡ self.old) }
     {
+        // the room is there before the copy is made, so no copy is ever given up
+        self.cells.reserve(1)?;
         let copy = cell.copy()?;
-        self.push(copy)
+        self.cells.push_reserved(copy);
+        Ok(())
     }
 
     /// Puts the value on top, which stays where it is.
@@ -201,20 +204,17 @@ impl<'a> Operands<'a> {
         ensures value { self.new ≡ cell.entry ∷ drop 1 self.old }
     {
         let last = self.cells.len() - 1;
-        self.cells[last] = cell;
+        let before = mem::replace(&mut self.cells[last], cell);
+        before.forget();
     }
 
-    /// Takes the topmost operand off and forgets it. One that takes no memory is forgotten in line.
+    /// Takes the topmost operand off and forgets it.
     #[inline(always)]
     pub fn drop_one(&mut self)
         requires some { 0 < length self.old }
         ensures value { self.new ≡ drop 1 self.old }
     {
-        let cell = self.pop();
-        match cell.form {
-            Form::Undefined | Form::Bool(_) | Form::Int(_) | Form::Time(_) => {}
-            form => forget(Cell { form }),
-        }
+        self.pop().forget();
     }
 
     /// Takes the topmost operand off, if it is a whole number that lies in its cell.
@@ -354,10 +354,6 @@ fn move_rest<'a>(
     cells.truncate(from);
     Ok(())
 }
-
-// Forgets the cell, with what it owns.
-#[inline(never)]
-fn forget(_cell: Cell<'_>) {}
 
 /// Whether the cells are all defined.
 pub(crate) fn all_defined(cells: &[Cell<'_>]) -> bool

@@ -9,7 +9,7 @@ pub returns-in-Push-clause-done : goal.returns-in-Push-clause-done
 returns-in-Push-clause-done c =
     let is : c.args.instr.now ≡ instr.Push c.in-Push.n = search rules in
     let row = weighs_and_acts c.args.code.now (instr.Push c.in-Push.n) in
-    rw c.on_if.ensures.value (rw is (row_done row c.args.self.now c.push_constant.new.self c.push_constant.result c.args.at c.push_constant.ensures.value))
+    rw c.on_if.ensures.value (rw is (row_done row c.args.self.now c.push_constant.new.self c.push_constant.result c.args.at c.args.input.now c.push_constant.ensures.value))
 
 pub returns-in-Push-clause-left : goal.returns-in-Push-clause-left
 returns-in-Push-clause-left c =
@@ -20,18 +20,23 @@ pub returns-in-Local-clause-done : goal.returns-in-Local-clause-done
 returns-in-Local-clause-done c =
     let is : c.args.instr.now ≡ instr.Local c.in-Local.n = search rules in
     let row = weighs_and_acts c.args.code.now (instr.Local c.in-Local.n) in
-    rw c.on_if-in-Local.ensures.value (rw is (row_done row c.args.self.now c.push_copy_of.new.self c.push_copy_of.result c.args.at (c.push_copy_of.ensures.value c.args.code.now)))
+    rw c.on_if-in-Local.ensures.value (rw is (row_done row c.args.self.now c.push_copy_of.new.self c.push_copy_of.result c.args.at c.args.input.now (c.push_copy_of.ensures.value c.args.code.now)))
 
 pub returns-in-Local-clause-left : goal.returns-in-Local-clause-left
 returns-in-Local-clause-left c =
     let row = weighs_and_acts c.args.code.now (instr.Local c.in-Local.n) in
     rw c.on_if-in-Local.ensures.value (row_left row c.args.self.now c.push_copy_of.new.self c.push_copy_of.result (c.push_copy_of.ensures.value c.args.code.now))
 
+pub returns-in-Input-clause-done : goal.returns-in-Input-clause-done
+returns-in-Input-clause-done c =
+    let is : c.args.instr.now ≡ instr.Input = search rules in
+    rw is (c.push_record.ensures.done c.args.code.now c.args.at)
+
 pub returns-in-Binary-clause-done : goal.returns-in-Binary-clause-done
 returns-in-Binary-clause-done c =
     let is : c.args.instr.now ≡ instr.Binary c.in-Binary.op = search rules in
     let row = weighs_and_acts c.args.code.now (instr.Binary c.in-Binary.op) in
-    rw c.on_if-in-Binary.ensures.value (rw is (row_done row c.args.self.now c.binary_of_ints.new.self c.binary_of_ints.result c.args.at (c.binary_of_ints.ensures.value c.args.code.now)))
+    rw c.on_if-in-Binary.ensures.value (rw is (row_done row c.args.self.now c.binary_of_ints.new.self c.binary_of_ints.result c.args.at c.args.input.now (c.binary_of_ints.ensures.value c.args.code.now)))
 
 pub returns-in-Binary-clause-left : goal.returns-in-Binary-clause-left
 returns-in-Binary-clause-left c =
@@ -42,7 +47,7 @@ pub returns-in-Keep-clause-done : goal.returns-in-Keep-clause-done
 returns-in-Keep-clause-done c =
     let is : c.args.instr.now ≡ instr.Keep c.in-Keep.n = search rules in
     let row = weighs_and_acts c.args.code.now (instr.Keep c.in-Keep.n) in
-    rw c.on_if-in-Keep.ensures.value (rw is (row_done row c.args.self.now c.keep_int.new.self c.keep_int.result c.args.at (c.keep_int.ensures.value c.args.code.now)))
+    rw c.on_if-in-Keep.ensures.value (rw is (row_done row c.args.self.now c.keep_int.new.self c.keep_int.result c.args.at c.args.input.now (c.keep_int.ensures.value c.args.code.now)))
 
 pub returns-in-Keep-clause-left : goal.returns-in-Keep-clause-left
 returns-in-Keep-clause-left c =
@@ -53,7 +58,7 @@ pub returns-in-Store-clause-done : goal.returns-in-Store-clause-done
 returns-in-Store-clause-done c =
     let is : c.args.instr.now ≡ instr.Store c.in-Store.n c.in-Store.path = search rules in
     let row = weighs_and_acts c.args.code.now (instr.Store c.in-Store.n c.in-Store.path) in
-    rw c.on_if-in-Store.ensures.value (rw is (row_done row c.args.self.now c.store_int.new.self c.store_int.result c.args.at (c.store_int.ensures.value c.args.code.now.ignore)))
+    rw c.on_if-in-Store.ensures.value (rw is (row_done row c.args.self.now c.store_int.new.self c.store_int.result c.args.at c.args.input.now (c.store_int.ensures.value c.args.code.now.ignore)))
 
 pub returns-in-Store-clause-left : goal.returns-in-Store-clause-left
 returns-in-Store-clause-left c =
@@ -64,7 +69,7 @@ pub returns-in-Apply-clause-done : goal.returns-in-Apply-clause-done
 returns-in-Apply-clause-done c =
     let is : c.args.instr.now ≡ instr.Apply c.in-Apply.which = search rules in
     let row = weighs_and_acts c.args.code.now (instr.Apply c.in-Apply.which) in
-    rw c.on_if-in-Apply.ensures.value (rw is (row_done row c.args.self.now c.apply_to_octets.new.self c.apply_to_octets.result c.args.at (c.apply_to_octets.ensures.value c.args.code.now)))
+    rw c.on_if-in-Apply.ensures.value (rw is (row_done row c.args.self.now c.apply_to_octets.new.self c.apply_to_octets.result c.args.at c.args.input.now (c.apply_to_octets.ensures.value c.args.code.now)))
 
 pub returns-in-Apply-clause-left : goal.returns-in-Apply-clause-left
 returns-in-Apply-clause-left c =
@@ -75,7 +80,7 @@ pub returns-in-Convert-clause-done : goal.returns-in-Convert-clause-done
 returns-in-Convert-clause-done c =
     let is : c.args.instr.now ≡ instr.Convert c.in-Convert.ty = search rules in
     let row = weighs_and_acts c.args.code.now (instr.Convert c.in-Convert.ty) in
-    rw c.on_if-in-Convert.ensures.value (rw is (row_done row c.args.self.now c.read_number.new.self c.read_number.result c.args.at c.read_number.ensures.value))
+    rw c.on_if-in-Convert.ensures.value (rw is (row_done row c.args.self.now c.read_number.new.self c.read_number.result c.args.at c.args.input.now c.read_number.ensures.value))
 
 pub returns-in-Convert-clause-left : goal.returns-in-Convert-clause-left
 returns-in-Convert-clause-left c =
@@ -86,7 +91,7 @@ pub returns-in-Slice-clause-done : goal.returns-in-Slice-clause-done
 returns-in-Slice-clause-done c =
     let is : c.args.instr.now ≡ instr.Slice = search rules in
     let row = weighs_and_acts c.args.code.now instr.Slice in
-    rw c.on_if-in-Slice.ensures.value (rw is (row_done row c.args.self.now c.cut.new.self c.cut.result c.args.at (c.cut.ensures.value c.args.code.now)))
+    rw c.on_if-in-Slice.ensures.value (rw is (row_done row c.args.self.now c.cut.new.self c.cut.result c.args.at c.args.input.now (c.cut.ensures.value c.args.code.now)))
 
 pub returns-in-Slice-clause-left : goal.returns-in-Slice-clause-left
 returns-in-Slice-clause-left c =
@@ -97,7 +102,7 @@ pub returns-in-Emit-default-eq0-false-clause-done : goal.returns-in-Emit-default
 returns-in-Emit-default-eq0-false-clause-done c =
     let is : c.args.instr.now ≡ instr.Emit c.in-Emit-default-eq0-false.table 0 false = search rules in
     let row = weighs_and_acts c.args.code.now (instr.Emit c.in-Emit-default-eq0-false.table 0 false) in
-    rw c.on_if-in-Emit-default-eq0-false.ensures.value (rw is (row_done row c.args.self.now c.emit_int.new.self c.emit_int.result c.args.at (c.emit_int.ensures.value c.args.code.now)))
+    rw c.on_if-in-Emit-default-eq0-false.ensures.value (rw is (row_done row c.args.self.now c.emit_int.new.self c.emit_int.result c.args.at c.args.input.now (c.emit_int.ensures.value c.args.code.now)))
 
 pub returns-in-Emit-default-eq0-false-clause-left : goal.returns-in-Emit-default-eq0-false-clause-left
 returns-in-Emit-default-eq0-false-clause-left c =

@@ -1,20 +1,20 @@
--- The line is there, and its charge is taken before it acts.
-use Rattle.std.proofs.Common.{rules, ◌≡◌, true, refl}
+-- The line is there. A common one has its whole charge taken; of another one it is settled what is due before it acts.
+use Rattle.std.proofs.Common.{rules, ◌≡◌, ◌∙◌, false, true, refl}
 use Rattle.std.proofs.lemmas.Result.{IfOk-weaker}
 use Rattle.sz_machine.specs.Acting.{state_of, in_record, base_charge, Paid}
 use Rattle.sz_machine.proofs.RunLemmas.{is_covered}
-use Rattle.sz_machine.proofs.StepLemmas.{line_goes, still_covered}
+use Rattle.sz_machine.proofs.StepLemmas.{line_goes, line_goes_whole, line_faults, settled, still_covered}
 use Rattle.sz_machine.proofs.run_state.RunState.step_in_record.Goals as goal
+use Rattle.sz_machine.proofs.run_state.RunState.step_in_record.Goals.{then-paid+in_default, else-paid}
 
 pub act_quickly-requires-clause-covers : goal.act_quickly-requires-clause-covers
 act_quickly-requires-clause-covers c =
     let line = c.line_at-line.result.now in
     let old = c.args.self.now in
     let a = in_record c.args.at c.args.statics.now c.args.input.now in
-    let paid : Paid (base_charge line.charge line.instr old.calls.lists) old true c.pay.new.self = search rules in
     record {
       around = a;
-      covers = still_covered c.args.code.now line old a a c.pay.new.self paid
+      covers = still_covered c.args.code.now line old a a c.from.result c.pay-paid.result c.pay-paid.new.self c.pay-paid.ensures.value
           (is_covered c.args.code.now (state_of old a) line c.line_at-line.ensures.value c.requires.ends);
     }
 
@@ -23,31 +23,46 @@ returns-in-Some c =
     let line = c.line_at-line.result.now in
     let old = c.args.self.now in
     let a = in_record c.args.at c.args.statics.now c.args.input.now in
-    let paid : Paid (base_charge line.charge line.instr old.calls.lists) old true c.pay.new.self = search rules in
+    let paid : Paid line.charge old true c.pay-paid.new.self = search rules in
     record {
-      value = line_goes c.args.code.now line old a a c.pay.new.self c.act_quickly.new.self c.in-Some.next c.line_at-line.ensures.value paid
-          (c.in-Some.ensures.done line.place a refl);
+      value = line_goes_whole c.args.code.now line old a a c.pay-paid.new.self c.act_quickly.new.self c.in-Some.next c.line_at-line.ensures.value
+          c.in-Some.ensures.common paid (c.in-Some.ensures.done line.place a (refl, refl));
     }
+
+pub returns-then-not-settle : goal.returns-then-not-settle
+returns-then-not-settle c =
+    let line = c.line_at-line.result.now in
+    let old = c.args.self.now in
+    let a = in_record c.args.at c.args.statics.now c.args.input.now in
+    let same : c.if-paid.self ≡ c.pay-paid.new.self = elim c.if-paid.branch [ then-paid+in_default w ↦ search rules | else-paid w ↦ search rules ] in
+    let taken : Paid line.charge old c.pay-paid.result c.if-paid.self = search rules in
+    let due = settled c.args.code.now line old a a c.if-paid.self c.settle.new.self c.pay-paid.result c.settle.result taken
+    (λ no. same ∙ c.pay-paid.ensures.left no) c.settle.ensures.value in
+    record { value = line_faults c.args.code.now line old a a c.settle.new.self c.line_at-line.ensures.value (rw (← c.if-not-settle.true) due) }
 
 pub act_in_record-requires-clause-covers : goal.act_in_record-requires-clause-covers
 act_in_record-requires-clause-covers c =
     let line = c.line_at-line.result.now in
     let old = c.args.self.now in
     let a = in_record c.args.at c.args.statics.now c.args.input.now in
-    let same : c.act_quickly.new.self ≡ c.pay.new.self = search rules in
-    let paid : Paid (base_charge line.charge line.instr old.calls.lists) old true c.pay.new.self = search rules in
-    rw same (still_covered c.args.code.now line old a a c.pay.new.self paid
-    (is_covered c.args.code.now (state_of old a) line c.line_at-line.ensures.value c.requires.ends))
+    let same : c.if-paid.self ≡ c.pay-paid.new.self = elim c.if-paid.branch [ then-paid+in_default w ↦ search rules | else-paid w ↦ search rules ] in
+    let taken : Paid line.charge old c.pay-paid.result c.if-paid.self = search rules in
+    let due = settled c.args.code.now line old a a c.if-paid.self c.settle.new.self c.pay-paid.result c.settle.result taken
+    (λ no. same ∙ c.pay-paid.ensures.left no) c.settle.ensures.value in
+    still_covered c.args.code.now line old a a (base_charge line.charge line.instr old.calls.lists) c.settle.result c.settle.new.self due
+    (is_covered c.args.code.now (state_of old a) line c.line_at-line.ensures.value c.requires.ends)
 
 pub returns : goal.returns
 returns c =
     let line = c.line_at-line.result.now in
     let old = c.args.self.now in
     let a = in_record c.args.at c.args.statics.now c.args.input.now in
-    let same : c.act_quickly.new.self ≡ c.pay.new.self = search rules in
-    let paid : Paid (base_charge line.charge line.instr old.calls.lists) old true c.pay.new.self = search rules in
+    let same : c.if-paid.self ≡ c.pay-paid.new.self = elim c.if-paid.branch [ then-paid+in_default w ↦ search rules | else-paid w ↦ search rules ] in
+    let taken : Paid line.charge old c.pay-paid.result c.if-paid.self = search rules in
+    let due = settled c.args.code.now line old a a c.if-paid.self c.settle.new.self c.pay-paid.result c.settle.result taken
+    (λ no. same ∙ c.pay-paid.ensures.left no) c.settle.ensures.value in
     record {
       value = IfOk-weaker c.act_in_record.result _ _
-          (λ next does. line_goes c.args.code.now line old a a c.act_quickly.new.self c.act_in_record.new.self next c.line_at-line.ensures.value (rw same paid) does)
+          (λ next does. line_goes c.args.code.now line old a a c.settle.new.self c.act_in_record.new.self next c.line_at-line.ensures.value (rw (← c.if-not-settle.false) due) does)
           c.act_in_record.ensures.value;
     }

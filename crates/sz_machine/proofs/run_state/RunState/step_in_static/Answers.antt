@@ -12,7 +12,7 @@ act_in_static-requires-clause-covers c =
     let old = c.args.self.now in
     let a = (in_static c.args.at c.args.statics.now) in
     let paid : Paid (base_charge line.charge line.instr old.calls.lists) old true c.pay.new.self = search rules in
-    still_covered c.args.code.now line old a a c.pay.new.self paid
+    still_covered c.args.code.now line old a a (base_charge line.charge line.instr old.calls.lists) true c.pay.new.self paid
     (is_covered c.args.code.now (state_of old a) line c.line_at-line.ensures.value c.requires.ends)
 
 pub returns : goal.returns
