@@ -30,7 +30,7 @@ install: $(PROGRAM) $(EXPLAIN) $(CUT)
 	install -D -m 755 $(EXPLAIN) $(DESTDIR)$(PREFIX)/bin/szl-explain
 	install -D -m 755 $(CUT) $(DESTDIR)$(PREFIX)/bin/szl-cut
 	$(put) man/szl-cut.1 $(share)/man/man1/szl-cut.1
-	install -D -m 755 tools/szl-rows $(DESTDIR)$(PREFIX)/bin/szl-rows
+	install -D -m 755 bin/szl-rows $(DESTDIR)$(PREFIX)/bin/szl-rows
 	$(put) man/szl.1 $(share)/man/man1/szl.1
 	$(put) man/szl-explain.1 $(share)/man/man1/szl-explain.1
 	$(put) man/szl-rows.1 $(share)/man/man1/szl-rows.1

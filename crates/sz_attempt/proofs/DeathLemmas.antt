@@ -27,27 +27,31 @@ kept p (Some n) = if p n then Some n else None
 -- the least of the numbers that pass is the least of all, if that one passes, where with a number all lesser ones pass
 module _ (p : ℕ → Bool) (closed : (a b : ℕ) → b ≤ a → p a ≡ true → p b ≡ true) where
   both : (n m : ℕ) (a b : Bool) → p n ≡ a → p m ≡ b
-      → kept p (Some (min n m)) ≡ (if a then Some (lesser n (if b then Some m else None)) else if b then Some m else None)
+      → kept p (Some (min n m))
+      ≡ (if a then Some (lesser n (if b then Some m else None)) else if b then Some m else None)
   both n m a b is_n is_m = by_order (order n m)
     where
       order : (x y : ℕ) → (x ≤ y) ⊎ (y ≤ x)
       order x y = grind arith
 
       least_first : n ≤ m → (a b : Bool) → p n ≡ a → p m ≡ b
-          → (if a then Some n else None) ≡ (if a then Some (lesser n (if b then Some m else None)) else if b then Some m else None)
+          → (if a then Some n else None)
+          ≡ (if a then Some (lesser n (if b then Some m else None)) else if b then Some m else None)
       least_first le true true e f = let same : min n m ≡ n = omega (arith, le) in ap Some (sym same)
       least_first le true false e f = refl
       least_first le false true e f = absurd (let bad = closed m n le f in cc)
       least_first le false false e f = refl
 
       least_last : m ≤ n → (a b : Bool) → p n ≡ a → p m ≡ b
-          → (if b then Some m else None) ≡ (if a then Some (lesser n (if b then Some m else None)) else if b then Some m else None)
+          → (if b then Some m else None)
+          ≡ (if a then Some (lesser n (if b then Some m else None)) else if b then Some m else None)
       least_last le true true e f = let same : min n m ≡ m = omega (arith, le) in ap Some (sym same)
       least_last le true false e f = absurd (let bad = closed n m le e in cc)
       least_last le false true e f = refl
       least_last le false false e f = refl
 
-      by_order : (n ≤ m) ⊎ (m ≤ n) → kept p (Some (min n m)) ≡ (if a then Some (lesser n (if b then Some m else None)) else if b then Some m else None)
+      by_order : (n ≤ m) ⊎ (m ≤ n) → kept p (Some (min n m))
+          ≡ (if a then Some (lesser n (if b then Some m else None)) else if b then Some m else None)
       by_order (inl le) =
           let same : min n m ≡ n = omega (arith, le) in
           ap (λ k. kept p (Some k)) same ∙ ap (λ c. if c then Some n else None) is_n ∙ least_first le a b is_n is_m
@@ -87,10 +91,12 @@ passed_are_few skip y h = tested (length y.faults) skip h
 
 -- how an attempt ends that lives
 pub living_part : (skip : ℕ) (y : Yield) → length y.faults ≤ skip → living_end skip y ≡ gives y.emits y.faults
-living_part skip y le = ap (λ b. if b then gives y.emits y.faults else fails (take (suc skip) y.faults)) (few_pass skip y le)
+living_part skip y le =
+    ap (λ b. if b then gives y.emits y.faults else fails (take (suc skip) y.faults)) (few_pass skip y le)
 
 pub living_bad : (skip : ℕ) (y : Yield) → skip < length y.faults → living_end skip y ≡ fails (take (suc skip) y.faults)
-living_bad skip y less = ap (λ b. if b then gives y.emits y.faults else fails (take (suc skip) y.faults)) (many_fail skip y less)
+living_bad skip y less =
+    ap (λ b. if b then gives y.emits y.faults else fails (take (suc skip) y.faults)) (many_fail skip y less)
 
 -- how an attempt ends, by the least of its kills
 module _ (job : Job) (shard : ShardData) where
@@ -98,8 +104,9 @@ module _ (job : Job) (shard : ShardData) where
   effect_closed a b le h =
       let parts = both_true (nat_le a (length shard.records)) (passes job.skip (front_means job shard a)) h in
       let fewer = fewer_faults job shard.first a b shard.records le in
-      true_both (nat_le b (length shard.records)) (passes job.skip (front_means job shard b)) (lower a b (length shard.records) le parts.0)
-      (lower (length (front_means job shard a).faults) (length (front_means job shard b).faults) job.skip fewer parts.1)
+      true_both (nat_le b (length shard.records)) (passes job.skip (front_means job shard b))
+      (lower a b (length shard.records) le parts.0) (lower (length (front_means job shard a).faults)
+      (length (front_means job shard b).faults) job.skip fewer parts.1)
     where
       both_true : (x y : Bool) → (x && y) ≡ true → (x ≡ true) × (y ≡ true)
       both_true true true e = (refl, refl)
@@ -115,18 +122,23 @@ module _ (job : Job) (shard : ShardData) where
       lower x y n l e = grind (arith, nat_tests)
 
   pub end_by_least : (k : ℕ)
-      → end_of job shard k ≡ end_by job.skip (kept (has_effect job shard) (least_of (kills_of shard.number k job.kills))) (shard_means job shard)
+      → end_of job shard k ≡ end_by job.skip
+      (kept (has_effect job shard) (least_of (kills_of shard.number k job.kills))) (shard_means job shard)
   end_by_least k =
-      ap (λ o. end_by job.skip o (shard_means job shard)) (least_kept (has_effect job shard) effect_closed (kills_of shard.number k job.kills))
+      ap (λ o. end_by job.skip o (shard_means job shard))
+      (least_kept (has_effect job shard) effect_closed (kills_of shard.number k job.kills))
 
-  effect_is : (after : ℕ) (c : Bool) → after ≤ length shard.records → passes job.skip (front_means job shard after) ≡ c → has_effect job shard after ≡ c
-  effect_is after c le is = ap (λ b. b && passes job.skip (front_means job shard after)) (tested after (length shard.records) le) ∙ is
+  effect_is : (after : ℕ) (c : Bool) → after ≤ length shard.records
+      → passes job.skip (front_means job shard after) ≡ c → has_effect job shard after ≡ c
+  effect_is after c le is =
+      ap (λ b. b && passes job.skip (front_means job shard after)) (tested after (length shard.records) le) ∙ is
     where
       tested : (x n : ℕ) → x ≤ n → nat_le x n ≡ true
       tested x n l = grind (arith, nat_tests)
 
   no_effect : (after : ℕ) → length shard.records < after → has_effect job shard after ≡ false
-  no_effect after less = ap (λ b. b && passes job.skip (front_means job shard after)) (tested after (length shard.records) less)
+  no_effect after less =
+      ap (λ b. b && passes job.skip (front_means job shard after)) (tested after (length shard.records) less)
     where
       tested : (x n : ℕ) → n < x → nat_le x n ≡ false
       tested x n l = grind (arith, nat_tests)
@@ -145,9 +157,11 @@ module _ (job : Job) (shard : ShardData) where
   lives k death = end_by_least k ∙ by (least_of (kills_of shard.number k job.kills)) refl
     where
       by : (o : Option ℕ) → least_of (kills_of shard.number k job.kills) ≡ o
-          → end_by job.skip (kept (has_effect job shard) o) (shard_means job shard) ≡ living_end job.skip (shard_means job shard)
+          → end_by job.skip (kept (has_effect job shard) o) (shard_means job shard)
+          ≡ living_end job.skip (shard_means job shard)
       by None is = refl
-      by (Some after) is = ap (λ c. end_by job.skip (if c then Some after else None) (shard_means job shard)) (no_effect after (death after is))
+      by (Some after) is = ap (λ c. end_by job.skip (if c then Some after else None) (shard_means job shard))
+          (no_effect after (death after is))
 
   -- where too many of the first records fault, these are the first of all that fault
   bad_of_front : (i : ℕ) → job.skip < length (front_means job shard i).faults
@@ -162,7 +176,8 @@ module _ (job : Job) (shard : ShardData) where
   -- or where too many fault before its death
   pub fails_so : (k : ℕ) (death : Option ℕ) → IsDeath (kills_of shard.number k job.kills) (length shard.records) death
       → job.skip < length (front_means job shard (run_of death (length shard.records))).faults
-      → end_of job shard k ≡ fails (take (suc job.skip) (front_means job shard (run_of death (length shard.records))).faults)
+      → end_of job shard k
+      ≡ fails (take (suc job.skip) (front_means job shard (run_of death (length shard.records))).faults)
   fails_so k None death less = lives k death ∙ bad_of_front (length shard.records) less
   fails_so k (Some after) death less =
       end_by_least k ∙ ap (λ o. end_by job.skip (kept (has_effect job shard) o) (shard_means job shard)) death.0

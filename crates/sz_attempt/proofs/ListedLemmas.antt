@@ -50,16 +50,19 @@ same_of s k j = ap (λ b. b && nat_eq k k) (equal s) ∙ equal k
 
 -- one kill more in front
 kills_step : (s k : ℕ) (one : Kill) (ks : List Kill)
-    → least_of (kills_of s k (one ∷ ks)) ≡ (if is_of s k one then Some (lesser one.after (least_of (kills_of s k ks))) else least_of (kills_of s k ks))
+    → least_of (kills_of s k (one ∷ ks))
+    ≡ (if is_of s k one then Some (lesser one.after (least_of (kills_of s k ks))) else least_of (kills_of s k ks))
 kills_step s k one ks = by (is_of s k one)
   where
-    by : (b : Bool) → least_of (map (λ (x : Kill). x.after) (cond b (one ∷ filter (is_of s k) ks) (filter (is_of s k) ks)))
+    by : (b : Bool)
+        → least_of (map (λ (x : Kill). x.after) (cond b (one ∷ filter (is_of s k) ks) (filter (is_of s k) ks)))
         ≡ (if b then Some (lesser one.after (least_of (kills_of s k ks))) else least_of (kills_of s k ks))
     by true = refl
     by false = refl
 
 -- one kill more after
-pub kills_more : (s k : ℕ) (ks : List Kill) (one : Kill) → least_of (kills_of s k (ks ++ one ∷ [])) ≡ least_with s k one (least_of (kills_of s k ks))
+pub kills_more : (s k : ℕ) (ks : List Kill) (one : Kill)
+    → least_of (kills_of s k (ks ++ one ∷ [])) ≡ least_with s k one (least_of (kills_of s k ks))
 kills_more s k ks one =
     ap least_of (ap (map (λ (x : Kill). x.after)) (filter-append (is_of s k) ks (one ∷ []))
     ∙ map-append (λ (x : Kill). x.after) (filter (is_of s k) ks) (filter (is_of s k) (one ∷ [])))
@@ -76,7 +79,8 @@ some_same a b e = cc
 -- the least of an attempt's kills is one of the list
 pub least_listed : (s k : ℕ) (ks : List Kill) (j : ℕ) → least_of (kills_of s k ks) ≡ Some j → Contains ks (kill s k j)
 least_listed s k [] j is = absurd (cc)
-least_listed s k (one ∷ ks) j is = by (is_of s k one) refl (least_of (kills_of s k ks)) (least_listed s k ks j) (sym (kills_step s k one ks) ∙ is)
+least_listed s k (one ∷ ks) j is =
+    by (is_of s k one) refl (least_of (kills_of s k ks)) (least_listed s k ks j) (sym (kills_step s k one ks) ∙ is)
   where
     this : is_of s k one ≡ true → one.after ≡ j → Contains (one ∷ ks) (kill s k j)
     this e same = (0, omega arith, of_same s k one e ∙ ap (kill s k) same)
@@ -84,7 +88,8 @@ least_listed s k (one ∷ ks) j is = by (is_of s k one) refl (least_of (kills_of
     least : (n m : ℕ) → min n m ≡ j → (n ≡ j) ⊎ (m ≡ j)
     least n m e = grind arith
 
-    either : is_of s k one ≡ true → (m : ℕ) → (Some m ≡ Some j → Contains ks (kill s k j)) → (one.after ≡ j) ⊎ (m ≡ j) → Contains (one ∷ ks) (kill s k j)
+    either : is_of s k one ≡ true → (m : ℕ) → (Some m ≡ Some j → Contains ks (kill s k j)) → (one.after ≡ j) ⊎ (m ≡ j)
+        → Contains (one ∷ ks) (kill s k j)
     either e m rest (inl same) = this e same
     either e m rest (inr same) = there (kill s k j) one ks (rest (ap Some same))
 
@@ -109,16 +114,22 @@ listed_least s k (one ∷ ks) i (zero, less, at) =
     by (least_of (kills_of s k ks)) first (kills_step s k one ks
     ∙ ap (λ b. if b then Some (lesser one.after (least_of (kills_of s k ks))) else least_of (kills_of s k ks)) same)
   where
-    by : (o : Option ℕ) → one.after ≡ i → least_of (kills_of s k (one ∷ ks)) ≡ Some (lesser one.after o) → AtMost (least_of (kills_of s k (one ∷ ks))) i
+    by : (o : Option ℕ) → one.after ≡ i → least_of (kills_of s k (one ∷ ks)) ≡ Some (lesser one.after o)
+        → AtMost (least_of (kills_of s k (one ∷ ks))) i
     by None e is = record { least = one.after; is = is; below = omega (arith, e) }
     by (Some m) e is = record { least = min one.after m; is = is; below = omega (arith, e) }
 listed_least s k (one ∷ ks) i (suc n, less, at) =
     by (is_of s k one) (listed_least s k ks i (n, omega (arith, less), at)) (kills_step s k one ks)
   where
     by : (b : Bool) → AtMost (least_of (kills_of s k ks)) i
-        → least_of (kills_of s k (one ∷ ks)) ≡ (if b then Some (lesser one.after (least_of (kills_of s k ks))) else least_of (kills_of s k ks))
+        → least_of (kills_of s k (one ∷ ks))
+        ≡ (if b then Some (lesser one.after (least_of (kills_of s k ks))) else least_of (kills_of s k ks))
         → AtMost (least_of (kills_of s k (one ∷ ks))) i
-    by true h is = record { least = min one.after h.least; is = is ∙ ap (λ o. Some (lesser one.after o)) h.is; below = omega (arith, h.below) }
+    by true h is = record {
+      least = min one.after h.least;
+      is = is ∙ ap (λ o. Some (lesser one.after o)) h.is;
+      below = omega (arith, h.below);
+    }
     by false h is = record { least = h.least; is = is ∙ h.is; below = h.below }
 
 -- what the end of an attempt says of the kill list
@@ -130,7 +141,8 @@ module _ (job : Job) (shard : ShardData) (k : ℕ) where
       by true h = absurd (cc)
       by false h = absurd (cc)
 
-  by_effect : (b : Bool) (after : ℕ) (y : Yield) (j : ℕ) → end_by job.skip (if b then Some after else None) y ≡ dies j → (b ≡ true) × (after ≡ j)
+  by_effect : (b : Bool) (after : ℕ) (y : Yield) (j : ℕ) → end_by job.skip (if b then Some after else None) y ≡ dies j
+      → (b ≡ true) × (after ≡ j)
   by_effect true after y j e = (refl, same_dies after j e)
     where
       same_dies : (a b : ℕ) → dies a ≡ dies b → a ≡ b
@@ -139,18 +151,22 @@ module _ (job : Job) (shard : ShardData) (k : ℕ) where
 
   parts_of : (after : ℕ) → has_effect job shard after ≡ true
       → (after ≤ length shard.records) × (length (front_means job shard after).faults ≤ job.skip)
-  parts_of after h = by (nat_le after (length shard.records)) (passes job.skip (front_means job shard after)) refl refl h
+  parts_of after h =
+      by (nat_le after (length shard.records)) (passes job.skip (front_means job shard after)) refl refl h
     where
       at_most : (a b : ℕ) → nat_le a b ≡ true → a ≤ b
       at_most a b e = grind (arith, nat_tests)
 
-      by : (x y : Bool) → nat_le after (length shard.records) ≡ x → passes job.skip (front_means job shard after) ≡ y → (x && y) ≡ true
+      by : (x y : Bool) → nat_le after (length shard.records) ≡ x → passes job.skip (front_means job shard after) ≡ y
+          → (x && y) ≡ true
           → (after ≤ length shard.records) × (length (front_means job shard after).faults ≤ job.skip)
-      by true true e f g = (at_most after (length shard.records) e, passed_are_few job.skip (front_means job shard after) f)
+      by true true e f g =
+          (at_most after (length shard.records) e, passed_are_few job.skip (front_means job shard after) f)
       by true false e f g = absurd (cc)
       by false y e f g = absurd (cc)
 
-  effect_of : (after : ℕ) → after ≤ length shard.records → length (front_means job shard after).faults ≤ job.skip → has_effect job shard after ≡ true
+  effect_of : (after : ℕ) → after ≤ length shard.records → length (front_means job shard after).faults ≤ job.skip
+      → has_effect job shard after ≡ true
   effect_of after le few =
       ap (λ b. b && passes job.skip (front_means job shard after)) (tested after (length shard.records) le)
       ∙ few_pass job.skip (front_means job shard after) few
@@ -162,8 +178,8 @@ module _ (job : Job) (shard : ShardData) (k : ℕ) where
   pub died_after : (j : ℕ) → end_of job shard k ≡ dies j → DiedAfter job shard k j
   died_after j is = by (least_of (kills_of shard.number k job.kills)) refl (sym (end_by_least job shard k) ∙ is)
     where
-      dead : (after : ℕ) → least_of (kills_of shard.number k job.kills) ≡ Some after → (has_effect job shard after ≡ true) × (after ≡ j)
-          → DiedAfter job shard k j
+      dead : (after : ℕ) → least_of (kills_of shard.number k job.kills) ≡ Some after
+          → (has_effect job shard after ≡ true) × (after ≡ j) → DiedAfter job shard k j
       dead after at h =
           let parts = parts_of after h.0 in
           subst (DiedAfter job shard k) h.1 (record {
@@ -183,7 +199,8 @@ module _ (job : Job) (shard : ShardData) (k : ℕ) where
       let h = listed_least shard.number k job.kills i died.listed in
       let first = effect_closed job shard i h.least h.below (effect_of i died.within died.few) in (
         h.least,
-        end_by_least job shard k ∙ ap (λ o. end_by job.skip (kept (has_effect job shard) o) (shard_means job shard)) h.is
+        end_by_least job shard k
+            ∙ ap (λ o. end_by job.skip (kept (has_effect job shard) o) (shard_means job shard)) h.is
             ∙ ap (λ b. end_by job.skip (if b then Some h.least else None) (shard_means job shard)) first,
         h.below,
       )
@@ -212,13 +229,15 @@ module _ (job : Job) (shard : ShardData) (k : ℕ) where
 module _ (job : Job) (shard : ShardData) where
   pub all_died : (n : ℕ) → all_die job shard n ≡ true → (k : ℕ) → k < n → HasDied job shard k
   all_died zero h k less = absurd (omega arith)
-  all_died (suc n) h k less = by (dies_at (end_of job shard n)) (all_die job shard n) refl refl (all_died n) h (order k n)
+  all_died (suc n) h k less =
+      by (dies_at (end_of job shard n)) (all_die job shard n) refl refl (all_died n) h (order k n)
     where
       order : (a b : ℕ) → (a ≡ b) ⊎ ((a < b) ⊎ (b < a))
       order a b = grind arith
 
       by : (x y : Bool) → dies_at (end_of job shard n) ≡ x → all_die job shard n ≡ y
-          → (all_die job shard n ≡ true → (i : ℕ) → i < n → HasDied job shard i) → (x && y) ≡ true → (k ≡ n) ⊎ ((k < n) ⊎ (n < k)) → HasDied job shard k
+          → (all_die job shard n ≡ true → (i : ℕ) → i < n → HasDied job shard i) → (x && y) ≡ true
+          → (k ≡ n) ⊎ ((k < n) ⊎ (n < k)) → HasDied job shard k
       by true true e f rest g (inl same) = subst (HasDied job shard) (sym same) (has_died job shard n e)
       by true true e f rest g (inr (inl below)) = rest f k below
       by true true e f rest g (inr (inr above)) = absurd (omega (arith, less, above))
@@ -242,14 +261,17 @@ AreOfDifferentAttempts kills = (s k i j : ℕ) → Contains kills (kill s k i) �
 killed_where : (s k j : ℕ) (ks : List Kill) → Contains ks (kill s k j) → is_killed s k ks ≡ true
 killed_where s k j [] (n, less, at) = absurd (omega arith)
 killed_where s k j (one ∷ ks) (zero, less, at) = ap (λ b. b || is_killed s k ks) (ap (is_of s k) at ∙ same_of s k j)
-killed_where s k j (one ∷ ks) (suc n, less, at) = by (is_of s k one) (killed_where s k j ks (n, omega (arith, less), at))
+killed_where s k j (one ∷ ks) (suc n, less, at) =
+    by (is_of s k one) (killed_where s k j ks (n, omega (arith, less), at))
   where
     by : (b : Bool) → is_killed s k ks ≡ true → (b || is_killed s k ks) ≡ true
     by true h = refl
     by false h = h
 
-different_more : (ks : List Kill) (one : Kill) → is_killed one.shard one.number ks ≡ false → AreOfDifferentAttempts ks → AreOfDifferentAttempts (ks ++ one ∷ [])
-different_more ks one free h s k i j first second = by (Contains-push_cases ks one (kill s k i) first) (Contains-push_cases ks one (kill s k j) second)
+different_more : (ks : List Kill) (one : Kill) → is_killed one.shard one.number ks ≡ false → AreOfDifferentAttempts ks
+    → AreOfDifferentAttempts (ks ++ one ∷ [])
+different_more ks one free h s k i j first second =
+    by (Contains-push_cases ks one (kill s k i) first) (Contains-push_cases ks one (kill s k j) second)
   where
     among : (n : ℕ) → Contains ks (kill s k n) → (m : ℕ) → one ≡ kill s k m → ⊥
     among n inside m is =
@@ -263,22 +285,25 @@ different_more ks one free h s k i j first second = by (Contains-push_cases ks o
     by (inr a) (inl b) = absurd (among j b i a)
     by (inr a) (inr b) = ap (λ (x : Kill). x.after) (sym a ∙ b)
 
-different_with : (ks : List Kill) (entries : List (List ℕ)) (result : List Kill) → kills_with ks entries ≡ Some result → AreOfDifferentAttempts ks
-    → AreOfDifferentAttempts result
+different_with : (ks : List Kill) (entries : List (List ℕ)) (result : List Kill) → kills_with ks entries ≡ Some result
+    → AreOfDifferentAttempts ks → AreOfDifferentAttempts result
 different_with ks [] result is h = subst AreOfDifferentAttempts (kills_same ks result is) h
   where
     kills_same : (a b : List Kill) → Some a ≡ Some b → a ≡ b
     kills_same a b e = cc
-different_with ks (entry ∷ entries) result is h = by (kill_of (pieces 46 entry)) (λ more. different_with more entries result) is
+different_with ks (entry ∷ entries) result is h =
+    by (kill_of (pieces 46 entry)) (λ more. different_with more entries result) is
   where
     test : (one : Kill) (a b : Bool) → is_killed one.shard one.number ks ≡ b
-        → ((more : List Kill) → kills_with more entries ≡ Some result → AreOfDifferentAttempts more → AreOfDifferentAttempts result)
-        → (if a && not b then kills_with (ks ++ one ∷ []) entries else None) ≡ Some result → AreOfDifferentAttempts result
+        → ((more : List Kill) → kills_with more entries ≡ Some result → AreOfDifferentAttempts more
+        → AreOfDifferentAttempts result) → (if a && not b then kills_with (ks ++ one ∷ []) entries else None)
+        ≡ Some result → AreOfDifferentAttempts result
     test one true false free rest e = rest (ks ++ one ∷ []) e (different_more ks one free h)
     test one true true free rest e = absurd (cc)
     test one false b free rest e = absurd (cc)
 
-    by : (o : Option Kill) → ((more : List Kill) → kills_with more entries ≡ Some result → AreOfDifferentAttempts more → AreOfDifferentAttempts result)
+    by : (o : Option Kill) → ((more : List Kill) → kills_with more entries ≡ Some result → AreOfDifferentAttempts more
+        → AreOfDifferentAttempts result)
         → option_and_then (λ one. if nat_lt (length ks) most_entries && not (is_killed one.shard one.number ks)
         then kills_with (ks ++ one ∷ []) entries else None) o ≡ Some result → AreOfDifferentAttempts result
     by None rest e = absurd (cc)

@@ -68,7 +68,8 @@ take_short zero (x ∷ xs) le = absurd (omega (arith, le))
 take_short (suc n) (x ∷ xs) le = let rest = take_short n xs (omega (arith, le)) in omega (arith, rest)
 
 module _ (job : Job) where
-  pub means-append : (n : ℕ) (xs ys : List (List ℕ)) → means job n (xs ++ ys) ≡ both (means job n xs) (means job (n + length xs) ys)
+  pub means-append : (n : ℕ) (xs ys : List (List ℕ))
+      → means job n (xs ++ ys) ≡ both (means job n xs) (means job (n + length xs) ys)
   means-append n [] ys =
       let same : n + 0 ≡ n = omega arith in
       both_nothing (means job n ys) ∙ ap (λ m. both nothing (means job m ys)) (sym same)
@@ -81,28 +82,36 @@ module _ (job : Job) where
 
   -- one record more
   pub means_more : (n : ℕ) (xs : List (List ℕ)) (x : List ℕ)
-      → means job n (xs ++ x ∷ []) ≡ both (means job n xs) (yield_of (n + length xs) (mean job.compiled job.statics job.budget x))
+      → means job n (xs ++ x ∷ [])
+      ≡ both (means job n xs) (yield_of (n + length xs) (mean job.compiled job.statics job.budget x))
   means_more n xs x =
       means-append n xs (x ∷ [])
-      ∙ ap (both (means job n xs)) (nothing_both (yield_of (n + length xs) (mean job.compiled job.statics job.budget x)))
+      ∙ ap (both (means job n xs))
+      (nothing_both (yield_of (n + length xs) (mean job.compiled job.statics job.budget x)))
 
   -- the records that fault of all are those of the first ones and those of the others
   pub faults_in_front : (n i : ℕ) (xs : List (List ℕ))
-      → (means job n xs).faults ≡ (means job n (take i xs)).faults ++ (means job (n + length (take i xs)) (drop i xs)).faults
-  faults_in_front n i xs = ap (λ (y : Yield). y.faults) (ap (means job n) (take_and_drop i xs) ∙ means-append n (take i xs) (drop i xs))
+      → (means job n xs).faults ≡ (means job n (take i xs)).faults
+      ++ (means job (n + length (take i xs)) (drop i xs)).faults
+  faults_in_front n i xs =
+      ap (λ (y : Yield). y.faults) (ap (means job n) (take_and_drop i xs) ∙ means-append n (take i xs) (drop i xs))
 
   -- of fewer records fewer fault
-  pub fewer_faults : (n i j : ℕ) (xs : List (List ℕ)) → j ≤ i → length (means job n (take j xs)).faults ≤ length (means job n (take i xs)).faults
+  pub fewer_faults : (n i j : ℕ) (xs : List (List ℕ)) → j ≤ i
+      → length (means job n (take j xs)).faults ≤ length (means job n (take i xs)).faults
   fewer_faults n i j xs le =
       let parts = ap length (faults_in_front n j (take i xs)) in
       let same = ap (λ ys. length (means job n ys).faults) (take_of_take j i xs le) in
-      let both = length-append (means job n (take j (take i xs))).faults (means job (n + length (take j (take i xs))) (drop j (take i xs))).faults in
+      let both = length-append (means job n (take j (take i xs))).faults
+      (means job (n + length (take j (take i xs))) (drop j (take i xs))).faults in
       omega (arith, parts, same, both)
 
-  pub fewer_than_all : (n i : ℕ) (xs : List (List ℕ)) → length (means job n (take i xs)).faults ≤ length (means job n xs).faults
+  pub fewer_than_all : (n i : ℕ) (xs : List (List ℕ))
+      → length (means job n (take i xs)).faults ≤ length (means job n xs).faults
   fewer_than_all n i xs =
       let parts = ap length (faults_in_front n i xs) in
-      let both = length-append (means job n (take i xs)).faults (means job (n + length (take i xs)) (drop i xs)).faults in
+      let both =
+      length-append (means job n (take i xs)).faults (means job (n + length (take i xs)) (drop i xs)).faults in
       omega (arith, parts, both)
 
   -- each record has at most as many emits as it may take ticks

@@ -15,9 +15,9 @@ use Rattle.sz_world_rules.specs.World.{World, new_world, spend, Done}
 use Rattle.sz_world_rules.specs.Slots.{Slot, all_defined}
 use Rattle.sz_world_rules.specs.Ticks.{weight_of_all}
 use Rattle.sz_world_rules.specs.Emits.{EmitParts, listed, emit_with, emit_weighted, emit_by_weight, emit_of, weight_number, weight_if_all, emit_weight, line_emit, emit_or_line, with_emit}
-use Rattle.sz_machine_rules.specs.Rows.{emit_parts}
-use Rattle.sz_machine_rules.specs.Runs.{charge_of, RunsTo}
-use Rattle.sz_machine_rules.proofs.RunLaws.{IsKept, done_good}
+use Rattle.sz_instr.specs.Rows.{emit_parts}
+use Rattle.sz_instr.specs.Runs.{charge_of, RunsTo}
+use Rattle.sz_instr.proofs.RunLaws.{IsKept, done_good}
 
 -- what the indexes and the value of an emit weigh
 abbrev parts_weight : EmitDatum → ℕ
@@ -31,13 +31,15 @@ appended : (slots rest : List Slot) (ds es : List Datum) → all_defined slots �
     → all_defined (slots ++ rest) ≡ Some (ds ++ es)
 appended [] rest ds es front later = later ∙ ap (λ l. Some (l ++ es)) (some_same [] ds front)
 appended (None ∷ slots) rest ds es front later = absurd (cc)
-appended (Some d ∷ slots) rest ds es front later = by (all_defined slots) refl front (λ fs is. appended slots rest fs es is later)
+appended (Some d ∷ slots) rest ds es front later =
+    by (all_defined slots) refl front (λ fs is. appended slots rest fs es is later)
   where
     by : (found : Option (List Datum)) → all_defined slots ≡ found → option_map (λ l. d ∷ l) found ≡ Some ds
         → ((fs : List Datum) → all_defined slots ≡ Some fs → all_defined (slots ++ rest) ≡ Some (fs ++ es))
         → option_map (λ l. d ∷ l) (all_defined (slots ++ rest)) ≡ Some (ds ++ es)
     by None is front more = absurd (cc)
-    by (Some fs) is front more = ap (option_map (λ l. d ∷ l)) (more fs is) ∙ ap (λ l. Some (l ++ es)) (some_same (d ∷ fs) ds front)
+    by (Some fs) is front more = ap (option_map (λ l. d ∷ l)) (more fs is)
+        ∙ ap (λ l. Some (l ++ es)) (some_same (d ∷ fs) ds front)
 
 weight_append : (ds es : List Datum) → weight_of_all (ds ++ es) ≡ weight_of_all ds + weight_of_all es
 weight_append [] es = omega arith
@@ -55,8 +57,9 @@ module _ (budget : ℕ) where
 
   -- an emit whose parts weigh no more is paid
   module _ (table : ℕ) (indexes : List Slot) where
-    plain_paid : (found : Option (List Datum)) → all_defined indexes ≡ found → (value : Slot) (others : List Slot) (es : List Datum)
-        → all_defined others ≡ Some es → weight_if_all (all_defined (indexes ++ value ∷ others)) ≤ budget → (weight : Option ℤ)
+    plain_paid : (found : Option (List Datum)) → all_defined indexes ≡ found
+        → (value : Slot) (others : List Slot) (es : List Datum) → all_defined others ≡ Some es
+        → weight_if_all (all_defined (indexes ++ value ∷ others)) ≤ budget → (weight : Option ℤ)
         → IfSome (emit_with table found value weight) IsPaid
     plain_paid None is value others es are less weight = tt
     plain_paid (Some ds) is None others es are less weight = tt
@@ -65,12 +68,14 @@ module _ (budget : ℕ) where
         let sum = ap weight_if_all all ∙ weight_append ds (v ∷ es) in
         inl (omega (arith, less, sum))
 
-    weighted_paid : (value : Slot) (x : Datum) → weight_if_all (all_defined (indexes ++ value ∷ Some x ∷ [])) ≤ budget → (weight : Option ℤ)
-        → IfSome (emit_weighted table (all_defined indexes) value weight) IsPaid
+    weighted_paid : (value : Slot) (x : Datum) → weight_if_all (all_defined (indexes ++ value ∷ Some x ∷ [])) ≤ budget
+        → (weight : Option ℤ) → IfSome (emit_weighted table (all_defined indexes) value weight) IsPaid
     weighted_paid value x less None = tt
-    weighted_paid value x less (Some n) = plain_paid (all_defined indexes) refl value (Some x ∷ []) (x ∷ []) refl less (Some n)
+    weighted_paid value x less (Some n) =
+        plain_paid (all_defined indexes) refl value (Some x ∷ []) (x ∷ []) refl less (Some n)
 
-    by_weight_paid : (value : Slot) (weight : Option Slot) → weight_if_all (all_defined (indexes ++ value ∷ listed weight)) ≤ budget
+    by_weight_paid : (value : Slot) (weight : Option Slot)
+        → weight_if_all (all_defined (indexes ++ value ∷ listed weight)) ≤ budget
         → IfSome (emit_by_weight table (all_defined indexes) value weight) IsPaid
     by_weight_paid value None less = plain_paid (all_defined indexes) refl value [] [] refl less None
     by_weight_paid value (Some None) less = tt
@@ -88,7 +93,8 @@ module _ (budget : ℕ) where
   with_paid w None keeps paid = keeps
   with_paid w (Some e) keeps paid = record { left = keeps.left; paid = All-push IsPaid w.emits e keeps.paid paid }
 
-  or_line_paid : (found : Option EmitDatum) (counting : Option ℕ) (place : Place) → IfSome found IsPaid → IfSome (emit_or_line found counting place) IsPaid
+  or_line_paid : (found : Option EmitDatum) (counting : Option ℕ) (place : Place) → IfSome found IsPaid
+      → IfSome (emit_or_line found counting place) IsPaid
   or_line_paid (Some e) counting place paid = paid
   or_line_paid None None place paid = tt
   or_line_paid None (Some table) place paid = inr (table, place, refl)
@@ -98,7 +104,8 @@ module _ (budget : ℕ) where
   spent_keeps zero w after keeps is = (subst Keeps (let same = is in cc) keeps, omega arith)
   spent_keeps (suc n) w after keeps is = by_test (nat_lt n w.left) refl is
     where
-      by_test : (b : Bool) → nat_lt n w.left ≡ b → (if b then Some (record w { left = w.left - suc n }) else None) ≡ Some after
+      by_test : (b : Bool) → nat_lt n w.left ≡ b
+          → (if b then Some (record w { left = w.left - suc n }) else None) ≡ Some after
           → Keeps after × (suc n ≤ budget)
       by_test true less is =
           let there : n < w.left = grind (arith, nat_tests) in
@@ -115,7 +122,8 @@ module _ (budget : ℕ) where
     counts = λ table place w can keeps. with_paid w (Some (line_emit table place)) keeps (inr (table, place, refl));
     emits = λ table indexes weighted place charge s after covers before is keeps.
         let taken = (spent_keeps (charge_of code charge (Emit table indexes weighted) s) s.world after before is).1 in
-        with_paid after _ keeps (or_line_paid _ code.ignore place (emit_paid table (emit_parts indexes weighted s.stack) (omega (arith, taken))));
+        with_paid after _ keeps (or_line_paid _ code.ignore place
+        (emit_paid table (emit_parts indexes weighted s.stack) (omega (arith, taken))));
   }
 
 -- what a run for a record emits is paid for

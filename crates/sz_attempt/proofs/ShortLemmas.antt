@@ -44,7 +44,8 @@ mutual
 
   pairs_short : (es : Entries) → entries_weight es ≤ 2 ^ 32 → PairsHaveShortLengths es
   pairs_short no_entries h = tt
-  pairs_short (entry k v es) h = (short k (omega (arith, h)), short v (omega (arith, h)), pairs_short es (omega (arith, h)))
+  pairs_short (entry k v es) h =
+      (short k (omega (arith, h)), short v (omega (arith, h)), pairs_short es (omega (arith, h)))
 
 value_short : (d : Datum) → weight_of d ≤ 2 ^ 32 → HasShortLengths d
 value_short d h = short d (omega (arith, h))
@@ -54,10 +55,14 @@ list_short [] h = tt
 list_short (d ∷ ds) h = (value_short d (omega (arith, h)), list_short ds (omega (arith, h)))
 
 -- emits whose ticks were within a budget have short lengths, and so has the count of a line
-pub emits_short : (budget : ℕ) → budget ≤ 2 ^ 32 → (emits : List EmitDatum) → All (IsPaid budget) emits → All HasShortParts emits
+pub emits_short : (budget : ℕ) → budget ≤ 2 ^ 32 → (emits : List EmitDatum) → All (IsPaid budget) emits
+    → All HasShortParts emits
 emits_short budget most emits = All-weaker (IsPaid budget) HasShortParts parts_short emits
   where
     parts_short : (e : EmitDatum) → IsPaid budget e → HasShortParts e
     parts_short e (inl paid) =
-        record { indexes = list_short e.indexes (omega (arith, paid, most)); value = value_short e.value (omega (arith, paid, most)) }
+        record {
+          indexes = list_short e.indexes (omega (arith, paid, most));
+          value = value_short e.value (omega (arith, paid, most));
+        }
     parts_short e (inr counts) = subst HasShortParts (sym counts.2) (record { indexes = (tt, tt); value = tt })

@@ -21,14 +21,18 @@ weight_is_there None h = absurd (cc)
 weight_is_there (Some t) h = refl
 
 -- a table that its kind allows has its weights
-allowed_has_weights : (d : Declaration) (kind : TableKind) → kind_allows kind d ≡ true → ranks kind ≡ true → is_some d.weight ≡ true
-allowed_has_weights d Maximum h r = weight_is_there d.weight (both_true (is_between 1 10000 d.limit) (is_weight d.weight) h)
-allowed_has_weights d Minimum h r = weight_is_there d.weight (both_true (is_between 1 10000 d.limit) (is_weight d.weight) h)
+allowed_has_weights : (d : Declaration) (kind : TableKind) → kind_allows kind d ≡ true → ranks kind ≡ true
+    → is_some d.weight ≡ true
+allowed_has_weights d Maximum h r =
+    weight_is_there d.weight (both_true (is_between 1 10000 d.limit) (is_weight d.weight) h)
+allowed_has_weights d Minimum h r =
+    weight_is_there d.weight (both_true (is_between 1 10000 d.limit) (is_weight d.weight) h)
 allowed_has_weights d Sum h r = absurd (cc)
 allowed_has_weights d Set h r = absurd (cc)
 allowed_has_weights d Collection h r = absurd (cc)
 
-items_have_weights : (locals : List Shape) (seen : List ℕ) (d : Declared) (rest : List Item) → AreItems locals seen d rest → HaveTheirWeights (tables_of rest)
+items_have_weights : (locals : List Shape) (seen : List ℕ) (d : Declared) (rest : List Item)
+    → AreItems locals seen d rest → HaveTheirWeights (tables_of rest)
 unfolding AreItems
 items_have_weights locals seen d [] sound = All-nil HasItsWeights
 items_have_weights locals seen d (items.table t ∷ rest) sound =

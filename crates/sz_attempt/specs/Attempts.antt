@@ -8,7 +8,8 @@ use Rattle.sz_attempt.specs.declared.job.Job.{Job}
 use Rattle.sz_attempt.specs.Shards.{ShardData}
 use Rattle.sz_attempt.specs.Yields.{Faulting, Yield, means}
 
--- How an attempt ends: it gives emits and the records that were passed over; or too many records fault, of which it gives the first ones;
+-- How an attempt ends: it gives emits and the records that were passed over; or too many records fault, of which it
+-- gives the first ones;
 -- or it dies after so many records
 pub data End : Type 0 where
   gives : (emits : List EmitDatum) (passed : List Faulting) → End
@@ -17,7 +18,8 @@ pub data End : Type 0 where
 
 -- after how many records attempt k of shard s is to die, by each entry of the list for it
 abbrev pub kills_of : ℕ → ℕ → List Kill → List ℕ
-kills_of s k kills = map (λ (kill : Kill). kill.after) (filter (λ (kill : Kill). nat_eq kill.shard s && nat_eq kill.number k) kills)
+kills_of s k kills =
+    map (λ (kill : Kill). kill.after) (filter (λ (kill : Kill). nat_eq kill.shard s && nat_eq kill.number k) kills)
 
 -- the lesser of a number and one that may be there
 abbrev pub lesser : ℕ → Option ℕ → ℕ
@@ -37,9 +39,11 @@ passes skip yield = nat_le (length yield.faults) skip
 abbrev pub HasTooMany : ℕ → Yield → Type 0
 HasTooMany skip yield = skip < length yield.faults
 
--- what an attempt gives that doesn't die. Of too many records that fault it gives the first: one more than may be passed over
+-- what an attempt gives that doesn't die. Of too many records that fault it gives the first: one more than may be
+-- passed over
 abbrev pub living_end : ℕ → Yield → End
-living_end skip yield = if passes skip yield then gives yield.emits yield.faults else fails (take (suc skip) yield.faults)
+living_end skip yield =
+    if passes skip yield then gives yield.emits yield.faults else fails (take (suc skip) yield.faults)
 
 -- how an attempt ends that dies after so many records, if it dies
 abbrev pub end_by : ℕ → Option ℕ → Yield → End
@@ -61,7 +65,8 @@ module _ (job : Job) where
   abbrev pub front_means : ShardData → ℕ → Yield
   front_means shard count = means job shard.first (take count shard.records)
 
-  -- whether a death after so many records of the shard has effect: there are as many, and no more of them fault than may be passed over
+  -- whether a death after so many records of the shard has effect: there are as many, and no more of them fault than
+  -- may be passed over
   abbrev pub has_effect : ShardData → ℕ → Bool
   has_effect shard after = nat_le after (length shard.records) && passes job.skip (front_means shard after)
 
@@ -73,8 +78,8 @@ module _ (job : Job) where
   abbrev pub end_of : ShardData → ℕ → End
   end_of shard k = end_by job.skip (least_of (deaths_of shard k)) (shard_means shard)
 
-  -- attempt k of the shard died after j records: the kill list says so, there are as many records, and no more of the first j fault than
-  -- may be passed over
+  -- attempt k of the shard died after j records: the kill list says so, there are as many records, and no more of the
+  -- first j fault than may be passed over
   pub record DiedAfter (shard : ShardData) (k j : ℕ) : Type 0 where
     pub listed : Contains job.kills (record { shard = shard.number; number = k; after = j })
     pub within : j ≤ length shard.records

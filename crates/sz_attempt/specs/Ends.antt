@@ -24,8 +24,8 @@ seen_skipped skipped = record { number = skipped.record_no; fault = seen_fault s
 abbrev pub seen_faults : List Skipped → List Faulting
 seen_faults faults = map seen_skipped faults
 
--- the answer tells this end: a part stands for just the emits and has the records passed over, a bad end has the first records that fault,
--- and a death the count of records
+-- the answer tells this end: a part stands for just the emits and has the records passed over, a bad end has the
+-- first records that fault, and a death the count of records
 abbrev pub EndsSo : Marked → End → AttemptEnd → Type 0
 EndsSo program end (answers.Part total faults) =
     (emits : List EmitDatum) × (end ≡ gives emits (seen_faults faults)) × StandForEmits program total emits

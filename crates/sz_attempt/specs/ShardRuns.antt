@@ -21,7 +21,8 @@ IsDeath kills count None = (after : ℕ) → least_of kills ≡ Some after → c
 
 -- the least of an attempt's kills with one kill more, if it is of attempt k of shard s
 abbrev pub least_with : ℕ → ℕ → Kill → Option ℕ → Option ℕ
-least_with s k kill least = if nat_eq kill.shard s && nat_eq kill.number k then Some (lesser kill.after least) else least
+least_with s k kill least =
+    if nat_eq kill.shard s && nat_eq kill.number k then Some (lesser kill.after least) else least
 
 -- how many of so many records are run: those before the death, or all
 abbrev pub run_of : Option ℕ → ℕ → ℕ
@@ -38,7 +39,8 @@ pub record GainsAll (old new : TotalState) (emits : List EmitDatum) : Type 0 whe
 -- the record with this number was run: its emits were added; or it faults, and is one more that does
 abbrev pub RunsRecord : Job → ℕ → List ℕ → TotalState → TotalState → List Skipped → List Skipped → Type 0
 RunsRecord job number input old new before after =
-    ((emits : List EmitDatum) × (mean job.compiled job.statics job.budget input ≡ Done emits) × GainsAll old new emits × (after ≡ before))
+    ((emits : List EmitDatum) × (mean job.compiled job.statics job.budget input ≡ Done emits) × GainsAll old new emits
+    × (after ≡ before))
     ⊎ ((fault : Fault) × (mean job.compiled job.statics job.budget input ≡ Faulted (seen_fault fault)) × (new ≡ old)
     × (after ≡ before ++ record { record_no = number; fault = fault } ∷ []))
 
@@ -46,8 +48,8 @@ RunsRecord job number input old new before after =
 pub record HoldsNothing (job : Job) (total : TotalState) : Type 0 where
   pub holds : StandForEmits job.compiled total []
 
--- Records were run of which this comes, up to the first that is one too many to be passed over: these fault. Where none is too many, the tables
--- stand for all their emits
+-- Records were run of which this comes, up to the first that is one too many to be passed over: these fault. Where
+-- none is too many, the tables stand for all their emits
 pub record RunsRecords (job : Job) (yield : Yield) (total : TotalState) (faults : List Skipped) : Type 0 where
   pub first : seen_faults faults ≡ take (suc job.skip) yield.faults
   pub stand : length faults ≤ job.skip → StandForEmits job.compiled total yield.emits

@@ -12,9 +12,11 @@ use Rattle.sz_book_rules.proofs.StepLemmas.{length-placed}
 
 pub no_shards : (n : ℕ) → sum_by (λ (l : List ℕ). length l) (replicate n []) ≡ 0
 no_shards zero = refl
-no_shards (suc n) = let a = sum_by-cons (λ (l : List ℕ). length l) [] (replicate n []) in let h = no_shards n in omega arith
+no_shards (suc n) = let a = sum_by-cons (λ (l : List ℕ). length l) [] (replicate n []) in
+    let h = no_shards n in omega arith
 
-pub few_open : (n m : ℕ) → sum_by (λ (l : List ℕ). length l) (replicate m []) + sum_by once (replicate n 0) ≤ sum_by once (replicate n 0)
+pub few_open : (n m : ℕ)
+    → sum_by (λ (l : List ℕ). length l) (replicate m []) + sum_by once (replicate n 0) ≤ sum_by once (replicate n 0)
 few_open n m = let a = no_shards m in omega arith
 
 once_low : (b : Bool) → cond b 0 1 ≤ 1
@@ -35,8 +37,9 @@ within (m ∷ row) zero h = omega arith
 within (m ∷ row) (suc s) h = let low = within row s h in omega arith
 
 -- a shard that is won stands in no lane at first
-pub few_won : (lists : List (List ℕ)) (unplaced winners : List ℕ) (s k : ℕ) → s < length unplaced → s < length winners → slice_index winners s ≡ 0
-    → sum_by length lists + sum_by once unplaced ≤ sum_by once winners → sum_by length lists + sum_by once (set unplaced s 1) ≤ sum_by once (set winners s (k + 1))
+pub few_won : (lists : List (List ℕ)) (unplaced winners : List ℕ) (s k : ℕ) → s < length unplaced → s < length winners
+    → slice_index winners s ≡ 0 → sum_by length lists + sum_by once unplaced ≤ sum_by once winners
+    → sum_by length lists + sum_by once (set unplaced s 1) ≤ sum_by once (set winners s (k + 1))
 few_won lists unplaced winners s k low high free few =
     let a = sum_by-set once unplaced s 1 0 low in
     let b = sum_by-set once winners s (k + 1) 0 high in
@@ -45,7 +48,8 @@ few_won lists unplaced winners s k low high free few =
     omega arith
 
 -- shards that are placed are marked no more
-pub placed_few : (marks ss : List ℕ) → AreUnplaced 0 marks ss → sum_by once (placed marks ss) + length ss ≡ sum_by once marks
+pub placed_few : (marks ss : List ℕ) → AreUnplaced 0 marks ss
+    → sum_by once (placed marks ss) + length ss ≡ sum_by once marks
 placed_few marks [] h = omega arith
 placed_few marks (s ∷ ss) h =
     let a = sum_by-set once marks s 0 0 (within marks s h.0) in
@@ -56,7 +60,8 @@ placed_few marks (s ∷ ss) h =
 -- and stand in the lane instead
 pub few_placed : (lists : List (List ℕ)) (i : ℕ) (marks winners ss : List ℕ) → i < length lists → AreUnplaced 0 marks ss
     → sum_by length lists + sum_by once marks ≤ sum_by once winners
-    → sum_by length (set lists i (slice_index_or lists i [] ++ ss)) + sum_by once (placed marks ss) ≤ sum_by once winners
+    → sum_by length (set lists i (slice_index_or lists i [] ++ ss)) + sum_by once (placed marks ss)
+    ≤ sum_by once winners
 few_placed lists i marks winners ss low h few =
     let a = sum_by-set (λ (l : List ℕ). length l) lists i (slice_index_or lists i [] ++ ss) [] low in
     let b = length-append (slice_index_or lists i []) ss in
@@ -64,7 +69,8 @@ few_placed lists i marks winners ss low h few =
     omega arith
 
 -- a row keeps its bound where what is written has it
-pub at_most : (row : List ℕ) (s v m : ℕ) → v ≤ m → ((t : ℕ) → slice_index row t ≤ m) → (t : ℕ) → slice_index (set row s v) t ≤ m
+pub at_most : (row : List ℕ) (s v m : ℕ) → v ≤ m → ((t : ℕ) → slice_index row t ≤ m) → (t : ℕ)
+    → slice_index (set row s v) t ≤ m
 at_most [] s v m low h t = h t
 at_most (r ∷ row) zero v m low h zero = low
 at_most (r ∷ row) zero v m low h (suc t) = h (suc t)
@@ -76,7 +82,8 @@ placed_low marks [] h = h
 placed_low marks (s ∷ ss) h = placed_low (set marks s 0) ss (at_most marks s 0 1 (omega arith) h)
 
 -- a core is sound once a shard is won
-pub sound_won : (p : PlanData) (x : LedgerState) (s k : ℕ) → IsSound p x → s < p.shards → k < p.attempts → slice_index x.winners s ≡ 0
+pub sound_won : (p : PlanData) (x : LedgerState) (s k : ℕ) → IsSound p x → s < p.shards → k < p.attempts
+    → slice_index x.winners s ≡ 0
     → IsSound p (record x { winners = set x.winners s (k + 1); unplaced = set x.unplaced s 1 })
 sound_won p x s k h low below free = record {
   plan = h.plan;
@@ -87,12 +94,15 @@ sound_won p x s k h low below free = record {
   winners = at_most x.winners s (k + 1) p.attempts (omega arith) h.winners;
   marks = at_most x.unplaced s 1 1 (omega arith) h.marks;
   outs = h.outs;
-  few = few_won x.lists x.unplaced x.winners s k (let r = h.rows.3 in omega arith) (let r = h.rows.2 in omega arith) free h.few;
+  few = few_won x.lists x.unplaced x.winners s k (let r = h.rows.3 in omega arith)
+      (let r = h.rows.2 in omega arith) free h.few;
 }
 
 -- and once a lane is home again
-pub sound_home : (p : PlanData) (x : LedgerState) (i : ℕ) (ss : List ℕ) → IsSound p x → i < length x.outs → AreUnplaced 0 x.unplaced ss
-    → IsSound p (record x { outs = set x.outs i 0; lists = set x.lists i (list_of x i ++ ss); unplaced = placed x.unplaced ss })
+pub sound_home : (p : PlanData) (x : LedgerState) (i : ℕ) (ss : List ℕ) → IsSound p x → i < length x.outs
+    → AreUnplaced 0 x.unplaced ss
+    → IsSound p
+    (record x { outs = set x.outs i 0; lists = set x.lists i (list_of x i ++ ss); unplaced = placed x.unplaced ss })
 sound_home p x i ss h low brought = record {
   plan = h.plan;
   rows = (h.rows.0, h.rows.1, h.rows.2, length-placed x.unplaced ss ∙ h.rows.3);
@@ -106,8 +116,8 @@ sound_home p x i ss h low brought = record {
 }
 
 -- each lane has room for all that may come
-pub has_room : (p : PlanData) (x : LedgerState) (i : ℕ) (ss : List ℕ) → IsSound p x → i < length x.lists → AreUnplaced 0 x.unplaced ss
-    → length (list_of x i) + length ss ≤ p.shards
+pub has_room : (p : PlanData) (x : LedgerState) (i : ℕ) (ss : List ℕ) → IsSound p x → i < length x.lists
+    → AreUnplaced 0 x.unplaced ss → length (list_of x i) + length ss ≤ p.shards
 has_room p x i ss sound low h =
     let a = get_or-le-sum_by (λ (l : List ℕ). length l) x.lists i [] low in
     let b = placed_few x.unplaced ss h in
@@ -117,7 +127,8 @@ has_room p x i ss sound low h =
     omega arith
 
 -- the room of a list, and its shards
-room_at : (lists : List ReservedData) (i : ℕ) (d : ReservedData) → slice_index_or (map (λ (l : ReservedData). l.room) lists) i d.room ≡ (slice_index_or lists i d).room
+room_at : (lists : List ReservedData) (i : ℕ) (d : ReservedData)
+    → slice_index_or (map (λ (l : ReservedData). l.room) lists) i d.room ≡ (slice_index_or lists i d).room
 room_at [] i d = refl
 room_at (l ∷ ls) zero d = refl
 room_at (l ∷ ls) (suc i) d = room_at ls i d
@@ -132,8 +143,8 @@ shards_at (l ∷ ls) (suc i) d low = shards_at ls i d (omega arith)
 abbrev pub longer : ReservedData → List ℕ → ReservedData
 longer r ss = record { room = r.room; shards = r.shards ++ ss }
 
-within_lists : (p : PlanData) (x : LedgerState) (lists : List ReservedData) (i : ℕ) → IsKept p x lists → x.lists ≡ map (λ (l : ReservedData). l.shards) lists
-    → i < length x.outs → i < length lists
+within_lists : (p : PlanData) (x : LedgerState) (lists : List ReservedData) (i : ℕ) → IsKept p x lists
+    → x.lists ≡ map (λ (l : ReservedData). l.shards) lists → i < length x.outs → i < length lists
 within_lists p x lists i kept is low =
     let a = kept.sound.lanes in
     let b = ap (λ (l : List (List ℕ)). length l) is in
@@ -141,45 +152,62 @@ within_lists p x lists i kept is low =
     omega arith
 
 -- a lane that comes back has room for what comes with it
-pub back_room : (p : PlanData) (x : LedgerState) (lists : List ReservedData) (i : ℕ) (ss : List ℕ) (r : ReservedData) → IsKept p x lists
-    → x.lists ≡ map (λ (l : ReservedData). l.shards) lists → IsReturned x 0 i ss → r ≡ slice_index_or lists i r → length r.shards + length ss ≤ r.room
+pub back_room : (p : PlanData) (x : LedgerState) (lists : List ReservedData) (i : ℕ) (ss : List ℕ) (r : ReservedData)
+    → IsKept p x lists → x.lists ≡ map (λ (l : ReservedData). l.shards) lists → IsReturned x 0 i ss
+    → r ≡ slice_index_or lists i r → length r.shards + length ss ≤ r.room
 back_room p x lists i ss r kept is back at =
     let low = within_lists p x lists i kept is back.within in
-    let room : r.room ≡ p.shards = ap (λ (q : ReservedData). q.room) at ∙ sym (room_at lists i r) ∙ ap (λ (l : List ℕ). slice_index_or l i r.room) kept.room ∙ get_or-replicate (length lists) i p.shards r.room low in
-    let shards : list_of x i ≡ r.shards = ap (λ (l : List (List ℕ)). slice_index_or l i []) is ∙ shards_at lists i r low ∙ ap (λ (q : ReservedData). q.shards) (sym at) in
-    let fits = has_room p x i ss kept.sound (let a = kept.sound.lanes in let b = back.within in omega arith) back.brought in
+    let room : r.room ≡ p.shards = ap (λ (q : ReservedData). q.room) at ∙ sym (room_at lists i r) ∙ ap
+    (λ (l : List ℕ). slice_index_or l i r.room) kept.room ∙ get_or-replicate (length lists) i p.shards r.room low in
+    let shards : list_of x i ≡ r.shards = ap (λ (l : List (List ℕ)). slice_index_or l i []) is
+    ∙ shards_at lists i r low ∙ ap (λ (q : ReservedData). q.shards) (sym at) in
+    let fits =
+    has_room p x i ss kept.sound (let a = kept.sound.lanes in let b = back.within in omega arith) back.brought in
     let same = ap (λ (l : List ℕ). length l) shards in
     omega arith
 
 -- the lists with it are the old ones, but for its own
-pub back_lists : (p : PlanData) (x : LedgerState) (lists : List ReservedData) (i : ℕ) (ss : List ℕ) (r : ReservedData) → IsKept p x lists
+pub back_lists : (p : PlanData) (x : LedgerState) (lists : List ReservedData) (i : ℕ) (ss : List ℕ) (r : ReservedData)
+    → IsKept p x lists
     → x.lists ≡ map (λ (l : ReservedData). l.shards) lists → IsReturned x 0 i ss → r ≡ slice_index_or lists i r
     → map (λ (l : ReservedData). l.shards) (set lists i (longer r ss)) ≡ set x.lists i (list_of x i ++ ss)
 back_lists p x lists i ss r kept is back at =
     let low = within_lists p x lists i kept is back.within in
-    let shards : list_of x i ≡ r.shards = ap (λ (l : List (List ℕ)). slice_index_or l i []) is ∙ shards_at lists i r low ∙ ap (λ (q : ReservedData). q.shards) (sym at) in
-    map-set (λ (l : ReservedData). l.shards) lists i (longer r ss) ∙ ap (λ (l : List (List ℕ)). set l i (r.shards ++ ss)) (sym is) ∙ ap (λ (l : List ℕ). set x.lists i (l ++ ss)) (sym shards)
+    let shards : list_of x i ≡ r.shards = ap (λ (l : List (List ℕ)). slice_index_or l i []) is
+    ∙ shards_at lists i r low ∙ ap (λ (q : ReservedData). q.shards) (sym at) in
+    map-set (λ (l : ReservedData). l.shards) lists i (longer r ss)
+    ∙ ap (λ (l : List (List ℕ)). set l i (r.shards ++ ss)) (sym is)
+    ∙ ap (λ (l : List ℕ). set x.lists i (l ++ ss)) (sym shards)
 
 -- and each has its room
-pub back_kept : (p : PlanData) (x : LedgerState) (lists : List ReservedData) (i : ℕ) (ss : List ℕ) (r : ReservedData) → IsKept p x lists
+pub back_kept : (p : PlanData) (x : LedgerState) (lists : List ReservedData) (i : ℕ) (ss : List ℕ) (r : ReservedData)
+    → IsKept p x lists
     → x.lists ≡ map (λ (l : ReservedData). l.shards) lists → IsReturned x 0 i ss → r ≡ slice_index_or lists i r
-    → IsKept p (record x { outs = set x.outs i 0; lists = map (λ (l : ReservedData). l.shards) (set lists i (longer r ss)); unplaced = placed x.unplaced ss }) (set lists i (longer r ss))
+    → IsKept p (record x {
+      outs = set x.outs i 0;
+      lists = map (λ (l : ReservedData). l.shards) (set lists i (longer r ss));
+      unplaced = placed x.unplaced ss;
+    }) (set lists i (longer r ss))
 back_kept p x lists i ss r kept is back at =
     let y = λ (l : List (List ℕ)). record x { outs = set x.outs i 0; lists = l; unplaced = placed x.unplaced ss } in
     let sound = sound_home p x i ss kept.sound back.within back.brought in
     let same : r.room ≡ (slice_index_or lists i r).room = ap (λ (q : ReservedData). q.room) at in
-    let rooms = map-set (λ (l : ReservedData). l.room) lists i (longer r ss) ∙ ap (set (map (λ (l : ReservedData). l.room) lists) i) (same ∙ sym (room_at lists i r))
-    ∙ set-get_or (map (λ (l : ReservedData). l.room) lists) i r.room ∙ kept.room ∙ ap (λ (m : ℕ). replicate m p.shards) (sym (length-set lists i (longer r ss))) in
+    let rooms = map-set (λ (l : ReservedData). l.room) lists i (longer r ss)
+    ∙ ap (set (map (λ (l : ReservedData). l.room) lists) i) (same ∙ sym (room_at lists i r))
+    ∙ set-get_or (map (λ (l : ReservedData). l.room) lists) i r.room ∙ kept.room
+    ∙ ap (λ (m : ℕ). replicate m p.shards) (sym (length-set lists i (longer r ss))) in
     record {
       sound = subst (λ (l : List (List ℕ)). IsSound p (y l)) (sym (back_lists p x lists i ss r kept is back at)) sound;
       room = rooms;
     }
 
-rooms_open : (n s : ℕ) → map (λ (l : ReservedData). l.room) (replicate n (record { room = s; shards = [] })) ≡ replicate n s
+rooms_open : (n s : ℕ)
+    → map (λ (l : ReservedData). l.room) (replicate n (record { room = s; shards = [] })) ≡ replicate n s
 rooms_open zero s = refl
 rooms_open (suc n) s = ap (λ (l : List ℕ). s ∷ l) (rooms_open n s)
 
-lists_open : (n s : ℕ) → map (λ (l : ReservedData). l.shards) (replicate n (record { room = s; shards = [] })) ≡ replicate n []
+lists_open : (n s : ℕ)
+    → map (λ (l : ReservedData). l.shards) (replicate n (record { room = s; shards = [] })) ≡ replicate n []
 lists_open zero s = refl
 lists_open (suc n) s = ap (λ (l : List (List ℕ)). [] ∷ l) (lists_open n s)
 
@@ -192,7 +220,12 @@ zero_at (suc n) m (suc t) = zero_at n m t
 sound_open : (p : PlanData) (lanes : ℕ) → IsPlan p → IsSound p (opening p lanes)
 sound_open p lanes plan = record {
   plan = plan;
-  rows = (length-replicate p.shards 0, length-replicate p.shards 0, length-replicate p.shards 0, length-replicate p.shards 0);
+  rows = (
+    length-replicate p.shards 0,
+    length-replicate p.shards 0,
+    length-replicate p.shards 0,
+    length-replicate p.shards 0,
+  );
   lanes = length-replicate lanes [] ∙ sym (length-replicate lanes 0);
   drawn = omega arith;
   given = zero_at p.shards p.attempts;
@@ -202,17 +235,29 @@ sound_open p lanes plan = record {
   few = few_open p.shards lanes;
 }
 
-pub kept_open : (p : PlanData) (lanes : ℕ) (lists : List ReservedData) → IsPlan p → lists ≡ replicate lanes (record { room = p.shards; shards = [] })
+pub kept_open : (p : PlanData) (lanes : ℕ) (lists : List ReservedData) → IsPlan p
+    → lists ≡ replicate lanes (record { room = p.shards; shards = [] })
     → IsKept p (record (opening p lanes) { lists = map (λ (l : ReservedData). l.shards) lists }) lists
-kept_open p lanes lists plan is = subst (λ (l : List ReservedData). IsKept p (record (opening p lanes) { lists = map (λ (q : ReservedData). q.shards) l }) l) (sym is) record {
-  sound = subst (λ (l : List (List ℕ)). IsSound p (record (opening p lanes) { lists = l })) (sym (lists_open lanes p.shards)) (sound_open p lanes plan);
-  room = rooms_open lanes p.shards ∙ ap (λ (n : ℕ). replicate n p.shards) (sym (length-replicate lanes (record { room = p.shards; shards = [] })));
-}
+kept_open p lanes lists plan is = subst (λ (l : List ReservedData).
+    IsKept p (record (opening p lanes) { lists = map (λ (q : ReservedData). q.shards) l }) l) (sym is) record {
+      sound = subst (λ (l : List (List ℕ)). IsSound p (record (opening p lanes) { lists = l }))
+          (sym (lists_open lanes p.shards)) (sound_open p lanes plan);
+      room = rooms_open lanes p.shards
+          ∙ ap (λ (n : ℕ). replicate n p.shards)
+          (sym (length-replicate lanes (record { room = p.shards; shards = [] })));
+    }
 
 -- what a contract sees of a new core
-pub seen_open : (p : PlanData) (lanes : ℕ) (lists : List ReservedData) → lists ≡ replicate lanes (record { room = p.shards; shards = [] })
-    → core_data p 0 (replicate p.shards 0) (replicate p.shards 0) (replicate p.shards 0) (replicate p.shards 0) None (replicate lanes 0) (map (λ (l : ReservedData). l.shards) lists)
+pub seen_open : (p : PlanData) (lanes : ℕ) (lists : List ReservedData)
+    → lists ≡ replicate lanes (record { room = p.shards; shards = [] })
+    → core_data p 0 (replicate p.shards 0) (replicate p.shards 0) (replicate p.shards 0) (replicate p.shards 0) None
+    (replicate lanes 0) (map (λ (l : ReservedData). l.shards) lists)
     ≡ record { plan = p; lanes = lanes; state = opening p lanes }
 seen_open p lanes lists is =
-    ap (λ (n : ℕ). record { plan = p; lanes = n; state = record (opening p lanes) { lists = map (λ (l : ReservedData). l.shards) lists } }) (length-replicate lanes 0)
-    ∙ ap (λ (l : List (List ℕ)). record { plan = p; lanes = lanes; state = record (opening p lanes) { lists = l } }) (ap (map (λ (l : ReservedData). l.shards)) is ∙ lists_open lanes p.shards)
+    ap (λ (n : ℕ). record {
+      plan = p;
+      lanes = n;
+      state = record (opening p lanes) { lists = map (λ (l : ReservedData). l.shards) lists };
+    }) (length-replicate lanes 0)
+    ∙ ap (λ (l : List (List ℕ)). record { plan = p; lanes = lanes; state = record (opening p lanes) { lists = l } })
+    (ap (map (λ (l : ReservedData). l.shards)) is ∙ lists_open lanes p.shards)

@@ -28,7 +28,8 @@ pub record AreInPlace (x : LedgerState) (homes : List (Option LaneData)) : Type 
   pub rows : length x.lists ≡ length x.outs
   pub each : (i : ℕ) → i < length homes → IsInPlace (slice_index_or homes i None) (slice_index x.outs i) (list_of x i)
 
--- what the lock keeps beside what the ledger keeps: the lanes are in place, and there is room for them when it is closed
+-- what the lock keeps beside what the ledger keeps: the lanes are in place, and there is room for them when it is
+-- closed
 pub record IsShelf (x : LedgerState) (homes : List (Option LaneData)) (here spare most : ℕ) : Type 0 where
   pub lanes : AreInPlace x homes
   pub empty : spare ≡ 0
@@ -55,21 +56,26 @@ Refuses old event shards new = (new ≡ old) × ¬ Fits old.ledger.plan old.ledg
 -- lane i was home and is lent
 abbrev pub Lends : ShelfData → ℕ → LaneData → ShelfData → Type 0
 Lends old i lane new =
-    Applies old.ledger (LaneOut i) [] (Lane true) new.ledger × (slice_index_or old.homes i None ≡ Some lane) × (new.homes ≡ slice_set old.homes i None)
+    Applies old.ledger (LaneOut i) [] (Lane true) new.ledger × (slice_index_or old.homes i None ≡ Some lane)
+    × (new.homes ≡ slice_set old.homes i None)
 
 -- lane i was out and stays so, or there is no such lane
 abbrev pub LendsNone : ShelfData → ℕ → ShelfData → Type 0
-LendsNone old i new = (new.homes ≡ old.homes) × (Applies old.ledger (LaneOut i) [] (Lane false) new.ledger ⊎ Refuses old (LaneOut i) [] new)
+LendsNone old i new = (new.homes ≡ old.homes)
+    × (Applies old.ledger (LaneOut i) [] (Lane false) new.ledger ⊎ Refuses old (LaneOut i) [] new)
 
 -- the lane came home with these shards after those that it had
 abbrev pub Homes : ShelfData → ℕ → LaneData → List ℕ → ShelfData → Type 0
-Homes old i lane further new = Applies old.ledger (LaneBack i) further Noted new.ledger × (new.homes ≡ slice_set old.homes i (Some lane))
+Homes old i lane further new =
+    Applies old.ledger (LaneBack i) further Noted new.ledger × (new.homes ≡ slice_set old.homes i (Some lane))
 
 -- a lane that is given back comes home where that fits, and is dropped otherwise
 pub record IsGiven (old : ShelfData) (i : ℕ) (lane : LaneData) (new : ShelfData) : Type 0 where
-  pub home : (further : List ℕ) → lane.shards ≡ list_of old.ledger.state i ++ further → Fits old.ledger.plan old.ledger.state 0 (LaneBack i) further
+  pub home : (further : List ℕ) → lane.shards ≡ list_of old.ledger.state i ++ further
+      → Fits old.ledger.plan old.ledger.state 0 (LaneBack i) further
       → Homes old i lane further new
-  pub dropped : ((further : List ℕ) → lane.shards ≡ list_of old.ledger.state i ++ further → ¬ Fits old.ledger.plan old.ledger.state 0 (LaneBack i) further)
+  pub dropped : ((further : List ℕ) → lane.shards ≡ list_of old.ledger.state i ++ further
+      → ¬ Fits old.ledger.plan old.ledger.state 0 (LaneBack i) further)
       → new ≡ old
 
 -- what a contract sees of a book, and of a pass: the plan, and how many passes may still be split off
@@ -99,9 +105,10 @@ pub record Shows (x : LedgerState) (won died : List ℕ) (bad : Option ℕ) : Ty
 abbrev pub lanes_home : List (Option LaneData) → List LaneData
 lanes_home homes = filter_map (λ home. home) homes
 
--- What is left of a shelf: just the lanes that it has at home, in their order and each with the shards that the state has for it, and
--- rows that show the state. With a lending in front of each return the shelf's history is legal, and leads to the state but for which
--- lanes are out. Each noted death is of an attempt that died, and the least bad shard is bad
+-- What is left of a shelf: just the lanes that it has at home, in their order and each with the shards that the state
+-- has for it, and rows that show the state. With a lending in front of each return the shelf's history is legal, and
+-- leads to the state but for which lanes are out. Each noted death is of an attempt that died, and the least bad
+-- shard is bad
 pub record IsLeft (died : ℕ → ℕ → Type 0) (is_bad : ℕ → Type 0) (shelf : ShelfData)
     (lanes : List LaneData) (won notes : List ℕ) (bad : Option ℕ) : Type 0 where
   pub replays : Replays died is_bad shelf.ledger

@@ -66,7 +66,8 @@ brought x (LaneOut i) = []
 brought x (LaneBack i) = floating x
 brought x (Bad s) = []
 
--- the claim was drawn, the number was given for its shard, the lane is one of the core's or is out, the shard is one of the plan's
+-- the claim was drawn, the number was given for its shard, the lane is one of the core's or is out, the shard is one
+-- of the plan's
 abbrev pub IsAllowed : PlanData → LedgerState → Event → Type 0
 IsAllowed p x Draw = Unit {0}
 IsAllowed p x (Number c) = IsDrawn p x c
@@ -92,13 +93,15 @@ pub record IsAfter (log : List Entry) (core : CoreData) : Type 0 where
 
 -- what had come to the old state by a history comes to the new one by that and this call
 pub record GoesOn (old : CoreData) (event : Event) (reply : Reply) (new : CoreData) : Type 0 where
-  pub history : (log : List Entry) → IsAfter log old → IsAfter (log ++ entry 0 event (brought old.state event) reply ∷ []) new
+  pub history : (log : List Entry) → IsAfter log old
+      → IsAfter (log ++ entry 0 event (brought old.state event) reply ∷ []) new
 
--- What a core keeps of its state: a row for each shard and for each lane, and numbers in their bounds. The shards in the lanes and
--- those that are won and in none are no more than were won
+-- What a core keeps of its state: a row for each shard and for each lane, and numbers in their bounds. The shards in
+-- the lanes and those that are won and in none are no more than were won
 pub record IsSound (p : PlanData) (x : LedgerState) : Type 0 where
   pub plan : IsPlan p
-  pub rows : (length x.given ≡ p.shards) × (length x.deaths ≡ p.shards) × (length x.winners ≡ p.shards) × (length x.unplaced ≡ p.shards)
+  pub rows : (length x.given ≡ p.shards) × (length x.deaths ≡ p.shards) × (length x.winners ≡ p.shards)
+      × (length x.unplaced ≡ p.shards)
   pub lanes : length x.lists ≡ length x.outs
   pub drawn : x.drawn ≤ count_of p
   pub given : (s : ℕ) → slice_index x.given s ≤ p.attempts

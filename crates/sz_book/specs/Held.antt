@@ -37,7 +37,8 @@ is_change p x (Bad s) shards = nat_lt s x.least_bad
 
 -- the history after a call: the call stands after it, if it was a change
 abbrev pub history_after : HeldData → Event → List ℕ → Reply → List Entry
-history_after h event shards reply = if is_change h.plan h.state event shards then h.history ++ entry 0 event shards reply ∷ [] else h.history
+history_after h event shards reply =
+    if is_change h.plan h.state event shards then h.history ++ entry 0 event shards reply ∷ [] else h.history
 
 -- one step of the ledger was made with these shards, and stands in the history if it was a change
 pub record Applies (old : HeldData) (event : Event) (shards : List ℕ) (reply : Reply) (new : HeldData) : Type 0 where
@@ -55,9 +56,9 @@ abbrev pub with_lendings : List Entry → List Entry
 with_lendings [] = []
 with_lendings (e ∷ es) = lending e.event ++ e ∷ with_lendings es
 
--- What the type of a ledger with its history keeps: with a lending in front of each return the history is legal, and leads to the state
--- but for which lanes are out. Each noted death is of an attempt that died, and the least shard marked bad is
--- one of those that are bad
+-- What the type of a ledger with its history keeps: with a lending in front of each return the history is legal, and
+-- leads to the state but for which lanes are out. Each noted death is of an attempt that died, and the least shard
+-- marked bad is one of those that are bad
 pub record Replays (died : ℕ → ℕ → Type 0) (is_bad : ℕ → Type 0) (h : HeldData) : Type 0 where
   pub plan : IsPlan h.plan
   pub legal : IsLegal h.plan h.lanes (with_lendings h.history)
@@ -67,8 +68,9 @@ pub record Replays (died : ℕ → ℕ → Type 0) (is_bad : ℕ → Type 0) (h 
 
 -- an event that fits is a change exactly where it leaves another state, but for which lanes are out
 abbrev pub ChangesAreSeen : Type 0
-ChangesAreSeen = (p : PlanData) (x : LedgerState) (event : Event) (shards : List ℕ) → IsSound p x → Fits p x 0 event shards
-    → (is_change p x event shards ≡ true) ↔ (all_home (after p x 0 event shards) ≢ all_home x)
+ChangesAreSeen = (p : PlanData) (x : LedgerState) (event : Event) (shards : List ℕ) → IsSound p x
+    → Fits p x 0 event shards → (is_change p x event shards ≡ true)
+    ↔ (all_home (after p x 0 event shards) ≢ all_home x)
 
 -- the history that changes stand for: with each come so many of the shards that are listed after one another
 abbrev pub history_of : List Change → List ℕ → List Entry
@@ -85,7 +87,8 @@ deaths_in p mask = sum_by (bit_at mask) (range_with_len 0 p.attempts)
 
 -- no fewer than the changes that lead to this state
 abbrev pub changes_in : PlanData → LedgerState → ℕ
-changes_in p x = x.drawn + sum_by (λ n. n) x.given + sum_by (deaths_in p) x.deaths + sum_by once x.winners + sum_by length x.lists + (p.shards - x.least_bad)
+changes_in p x = x.drawn + sum_by (λ n. n) x.given + sum_by (deaths_in p) x.deaths + sum_by once x.winners
+    + sum_by length x.lists + (p.shards - x.least_bad)
 
 -- no fewer than the changes that a round can have
 abbrev pub most_changes : PlanData → ℕ
@@ -93,10 +96,16 @@ most_changes p = count_of p + p.shards * (2 * p.attempts + 3)
 
 -- what a contract sees of a ledger with this core, these changes and the shards that came with them
 abbrev pub held_data : CoreData → List Change → ReservedData → HeldData
-held_data core changes brought = record { plan = core.plan; lanes = core.lanes; state = core.state; history = history_of changes brought.shards }
+held_data core changes brought = record {
+  plan = core.plan;
+  lanes = core.lanes;
+  state = core.state;
+  history = history_of changes brought.shards;
+}
 
 -- the same with the room for all that may still come
-pub record KeepsHistory (died : ℕ → ℕ → Type 0) (is_bad : ℕ → Type 0) (core : CoreData) (changes : List Change) (brought : ReservedData)
+pub record KeepsHistory (died : ℕ → ℕ → Type 0) (is_bad : ℕ → Type 0) (core : CoreData) (changes : List Change)
+    (brought : ReservedData)
     (room : ℕ) : Type 0 where
   pub replays : Replays died is_bad (held_data core changes brought)
   pub came : shards_in changes ≡ length brought.shards

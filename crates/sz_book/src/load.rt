@@ -22,6 +22,7 @@ pub trait Load: Sized + Drop {
     fn absorb(&mut self, part: Self) -> Result<(), Self>
         requires plan { plan self.old ≡ plan part }
         requires apart { (ss : List ℕ) × (ts : List ℕ) × stands self.old ss × stands part ts × AreApart ss ts }
-        ensures ok { OnOk result ((plan self.new ≡ plan self.old) × ((ss ts : List ℕ) → stands self.old ss → stands part ts → AreApart ss ts → stands self.new (ss ++ ts))) }
+        ensures ok { OnOk result ((plan self.new ≡ plan self.old) × ((ss ts : List ℕ) → stands self.old ss
+            → stands part ts → AreApart ss ts → stands self.new (ss ++ ts))) }
         ensures err { IfErr result (λ back. (back ≡ part) × (self.new ≡ self.old)) };
 }

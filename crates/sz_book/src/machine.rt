@@ -64,9 +64,11 @@ impl Model for Core {
 
     ghost Value = { CoreData };
 
-    ghost view = { λ core. core_data core.plan core.drawn core.given core.deaths core.winners core.unplaced core.least_bad core.outs (map (λ list. list.shards) core.lists.items) };
+    ghost view = { λ core. core_data core.plan core.drawn core.given core.deaths core.winners core.unplaced
+        core.least_bad core.outs (map (λ list. list.shards) core.lists.items) };
 
-    ghost invariant = { λ core. IsKept core.plan (core_data core.plan core.drawn core.given core.deaths core.winners core.unplaced core.least_bad core.outs (map (λ list. list.shards) core.lists.items)).state core.lists.items };
+    ghost invariant = { λ core. IsKept core.plan (core_data core.plan core.drawn core.given core.deaths core.winners
+        core.unplaced core.least_bad core.outs (map (λ list. list.shards) core.lists.items)).state core.lists.items };
 }
 
 // So many zeros.

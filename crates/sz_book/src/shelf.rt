@@ -60,7 +60,8 @@ impl<T: Load> Shelf<T> {
     pub fn new(alloc: Global, plan: &Plan, lanes: Vec<Lane<T>>) -> Result<Shelf<T>, NoMemory>
         requires few { length lanes.items < 2 ^ 32 }
         requires empty { HaveNoShards lanes.items }
-        ensures value { IfOk result (λ shelf. shelf ≡ record { ledger = record { plan = plan.now; lanes = length lanes.items; state = opening plan.now (length lanes.items); history = [] }; homes = map (λ lane. Some lane) lanes.items }) }
+        ensures value { IfOk result (λ shelf. shelf
+            ≡ record { ledger = record { plan = plan.now; lanes = length lanes.items; state = opening plan.now (length lanes.items); history = [] }; homes = map (λ lane. Some lane) lanes.items }) }
     {
         let ledger = Held::new(alloc, plan, lanes.len() as u32)?;
         let spare = Vec::with_capacity(alloc, lanes.len())?;

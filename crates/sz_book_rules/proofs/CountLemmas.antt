@@ -62,26 +62,33 @@ no_ticket false r q n x y h k = k
 
 ticket_step : (p : PlanData) (x : LedgerState) (n : ℕ) (e : Event) (ss : List ℕ) → Counted (ticket_in (reply_of p x e)) x.drawn (after p x n e ss).drawn
 ticket_step p x n Draw ss = ticket_by_test p x (nat_lt x.drawn (count_of p))
-ticket_step p x n (Number c) ss = no_ticket (nat_lt (slice_index x.given c.shard) p.attempts) _ _ x.drawn (record x { given = set x.given c.shard (slice_index x.given c.shard + 1) }) x refl refl
+ticket_step p x n (Number c) ss = no_ticket (nat_lt (slice_index x.given c.shard) p.attempts) _ _ x.drawn
+    (record x { given = set x.given c.shard (slice_index x.given c.shard + 1) }) x refl refl
 ticket_step p x n (Died c k) ss = refl
-ticket_step p x n (Settle c k) ss = no_ticket (slice_index x.winners c.shard == 0) _ _ x.drawn (record x { winners = set x.winners c.shard (k + 1); unplaced = set x.unplaced c.shard (n + 1) }) x refl refl
+ticket_step p x n (Settle c k) ss = no_ticket (slice_index x.winners c.shard == 0) _ _ x.drawn
+    (record x { winners = set x.winners c.shard (k + 1); unplaced = set x.unplaced c.shard (n + 1) }) x refl refl
 ticket_step p x n (LaneOut i) ss = either (λ y. y.drawn ≡ x.drawn) (slice_index x.outs i == 0) (record x { outs = set x.outs i 1 }) x refl refl
 ticket_step p x n (LaneBack i) ss = refl
 ticket_step p x n (Bad s) ss = refl
 
 ticket_counts : (p : PlanData) → Counts p (λ e. ticket_in e.reply) (λ x. x.drawn)
-ticket_counts p x e rows fits is = subst (λ (r : Reply). Counted (ticket_in r) x.drawn (after p x e.by e.event e.shards).drawn) (sym is) (ticket_step p x e.by e.event e.shards)
+ticket_counts p x e rows fits is =
+    subst (λ (r : Reply). Counted (ticket_in r) x.drawn (after p x e.by e.event e.shards).drawn) (sym is)
+    (ticket_step p x e.by e.event e.shards)
 
 number_here : (s : ℕ) (b : Bool) (c : Claim) (row : List ℕ) → (c.shard == s) ≡ b → c.shard < length row
-    → Counted (number_in s (Number c) (Numbered (Some (slice_index row c.shard)))) (slice_index row s) (slice_index (set row c.shard (slice_index row c.shard + 1)) s)
+    → Counted (number_in s (Number c) (Numbered (Some (slice_index row c.shard)))) (slice_index row s)
+    (slice_index (set row c.shard (slice_index row c.shard + 1)) s)
 number_here s true c row is low =
     let same : c.shard ≡ s = eqb-true c.shard s is in
     let more : slice_index (set row c.shard (slice_index row c.shard + 1)) s ≡ suc (slice_index row s) =
     set_here row c.shard s (slice_index row c.shard + 1) low is ∙ (let e = ap (slice_index row) same in omega (arith, e)) in
-    subst (λ (b : Bool). Counted (cond b (Some (slice_index row c.shard)) None) (slice_index row s) (slice_index (set row c.shard (slice_index row c.shard + 1)) s)) (sym is)
+    subst (λ (b : Bool). Counted (cond b (Some (slice_index row c.shard)) None) (slice_index row s)
+    (slice_index (set row c.shard (slice_index row c.shard + 1)) s)) (sym is)
     (ap (slice_index row) same, more)
 number_here s false c row is low =
-    subst (λ (b : Bool). Counted (cond b (Some (slice_index row c.shard)) None) (slice_index row s) (slice_index (set row c.shard (slice_index row c.shard + 1)) s)) (sym is)
+    subst (λ (b : Bool). Counted (cond b (Some (slice_index row c.shard)) None) (slice_index row s)
+    (slice_index (set row c.shard (slice_index row c.shard + 1)) s)) (sym is)
     (set_there row c.shard s (slice_index row c.shard + 1) is)
 
 number_by_test : (p : PlanData) (x : LedgerState) (s : ℕ) (c : Claim) (b : Bool) → c.shard < length x.given
@@ -92,18 +99,23 @@ number_by_test p x s c false low = refl
 
 number_step : (p : PlanData) (x : LedgerState) (s n : ℕ) (e : Event) (ss : List ℕ) → IsPlan p → HasRows p x → Fits p x n e ss
     → Counted (number_in s e (reply_of p x e)) (slice_index x.given s) (slice_index (after p x n e ss).given s)
-number_step p x s n Draw ss plan rows fits = either (λ y. slice_index y.given s ≡ slice_index x.given s) (nat_lt x.drawn (count_of p)) (record x { drawn = x.drawn + 1 }) x refl refl
+number_step p x s n Draw ss plan rows fits = either (λ y. slice_index y.given s ≡ slice_index x.given s)
+    (nat_lt x.drawn (count_of p)) (record x { drawn = x.drawn + 1 }) x refl refl
 number_step p x s n (Number c) ss plan rows fits =
     let low : c.shard < length x.given = (let a = shard_within p x c plan fits.1 in let b = rows.given in omega arith) in
     number_by_test p x s c (nat_lt (slice_index x.given c.shard) p.attempts) low
 number_step p x s n (Died c k) ss plan rows fits = refl
-number_step p x s n (Settle c k) ss plan rows fits = either (λ y. slice_index y.given s ≡ slice_index x.given s) (slice_index x.winners c.shard == 0) (record x { winners = set x.winners c.shard (k + 1); unplaced = set x.unplaced c.shard (n + 1) }) x refl refl
-number_step p x s n (LaneOut i) ss plan rows fits = either (λ y. slice_index y.given s ≡ slice_index x.given s) (slice_index x.outs i == 0) (record x { outs = set x.outs i 1 }) x refl refl
+number_step p x s n (Settle c k) ss plan rows fits =
+    either (λ y. slice_index y.given s ≡ slice_index x.given s) (slice_index x.winners c.shard == 0)
+    (record x { winners = set x.winners c.shard (k + 1); unplaced = set x.unplaced c.shard (n + 1) }) x refl refl
+number_step p x s n (LaneOut i) ss plan rows fits = either (λ y. slice_index y.given s ≡ slice_index x.given s)
+    (slice_index x.outs i == 0) (record x { outs = set x.outs i 1 }) x refl refl
 number_step p x s n (LaneBack i) ss plan rows fits = refl
 number_step p x s n (Bad b) ss plan rows fits = refl
 
 number_counts : (p : PlanData) (s : ℕ) → IsPlan p → Counts p (λ e. number_in s e.event e.reply) (λ x. slice_index x.given s)
-number_counts p s plan x e rows fits is = subst (λ (r : Reply). Counted (number_in s e.event r) (slice_index x.given s) (slice_index (after p x e.by e.event e.shards).given s)) (sym is)
+number_counts p s plan x e rows fits is = subst (λ (r : Reply). Counted (number_in s e.event r)
+    (slice_index x.given s) (slice_index (after p x e.by e.event e.shards).given s)) (sym is)
     (number_step p x s e.by e.event e.shards plan rows fits)
 
 -- nothing was won and the word stays, or the shard was not settled and has this winner
@@ -116,9 +128,11 @@ win_here : (s : ℕ) (b : Bool) (c : Claim) (k : ℕ) (row : List ℕ) → (c.sh
 win_here s true c k row is low free =
     let same : c.shard ≡ s = eqb-true c.shard s is in
     let more : slice_index (set row c.shard (k + 1)) s ≡ suc k = set_here row c.shard s (k + 1) low is ∙ omega arith in
-    subst (λ (b : Bool). Wins (cond b (Some k) None) (slice_index row s) (slice_index (set row c.shard (k + 1)) s)) (sym is) (ap (slice_index row) (sym same) ∙ free, more)
+    subst (λ (b : Bool). Wins (cond b (Some k) None) (slice_index row s) (slice_index (set row c.shard (k + 1)) s))
+    (sym is) (ap (slice_index row) (sym same) ∙ free, more)
 win_here s false c k row is low free =
-    subst (λ (b : Bool). Wins (cond b (Some k) None) (slice_index row s) (slice_index (set row c.shard (k + 1)) s)) (sym is) (set_there row c.shard s (k + 1) is)
+    subst (λ (b : Bool). Wins (cond b (Some k) None) (slice_index row s) (slice_index (set row c.shard (k + 1)) s))
+    (sym is) (set_there row c.shard s (k + 1) is)
 
 win_by_test : (x : LedgerState) (s : ℕ) (c : Claim) (k n : ℕ) (b : Bool) → (slice_index x.winners c.shard == 0) ≡ b → c.shard < length x.winners
     → Wins (win_in s (Settle c k) (cond b Won (Late (slice_index x.winners c.shard - 1)))) (slice_index x.winners s)
@@ -128,24 +142,30 @@ win_by_test x s c k n false is low = refl
 
 win_step : (p : PlanData) (x : LedgerState) (s n : ℕ) (e : Event) (ss : List ℕ) → IsPlan p → HasRows p x → Fits p x n e ss
     → Wins (win_in s e (reply_of p x e)) (slice_index x.winners s) (slice_index (after p x n e ss).winners s)
-win_step p x s n Draw ss plan rows fits = either (λ y. slice_index y.winners s ≡ slice_index x.winners s) (nat_lt x.drawn (count_of p)) (record x { drawn = x.drawn + 1 }) x refl refl
-win_step p x s n (Number c) ss plan rows fits = either (λ y. slice_index y.winners s ≡ slice_index x.winners s) (nat_lt (slice_index x.given c.shard) p.attempts) (record x { given = set x.given c.shard (slice_index x.given c.shard + 1) }) x refl refl
+win_step p x s n Draw ss plan rows fits = either (λ y. slice_index y.winners s ≡ slice_index x.winners s)
+    (nat_lt x.drawn (count_of p)) (record x { drawn = x.drawn + 1 }) x refl refl
+win_step p x s n (Number c) ss plan rows fits =
+    either (λ y. slice_index y.winners s ≡ slice_index x.winners s) (nat_lt (slice_index x.given c.shard) p.attempts)
+    (record x { given = set x.given c.shard (slice_index x.given c.shard + 1) }) x refl refl
 win_step p x s n (Died c k) ss plan rows fits = refl
 win_step p x s n (Settle c k) ss plan rows fits =
     let low : c.shard < length x.winners = (let a = shard_within p x c plan fits.1.claim in let b = rows.winners in omega arith) in
     win_by_test x s c k n (slice_index x.winners c.shard == 0) refl low
-win_step p x s n (LaneOut i) ss plan rows fits = either (λ y. slice_index y.winners s ≡ slice_index x.winners s) (slice_index x.outs i == 0) (record x { outs = set x.outs i 1 }) x refl refl
+win_step p x s n (LaneOut i) ss plan rows fits = either (λ y. slice_index y.winners s ≡ slice_index x.winners s)
+    (slice_index x.outs i == 0) (record x { outs = set x.outs i 1 }) x refl refl
 win_step p x s n (LaneBack i) ss plan rows fits = refl
 win_step p x s n (Bad b) ss plan rows fits = refl
 
-more_won : (o : Option ℕ) (n m : ℕ) (found : List ℕ) (end : ℕ) → Wins o n m → winner_in m ++ found ≡ winner_in end → winner_in n ++ cons_option o found ≡ winner_in end
+more_won : (o : Option ℕ) (n m : ℕ) (found : List ℕ) (end : ℕ) → Wins o n m → winner_in m ++ found ≡ winner_in end
+    → winner_in n ++ cons_option o found ≡ winner_in end
 more_won None n m found end one h = ap (λ (a : ℕ). winner_in a ++ found) (sym one) ∙ h
 more_won (Some k) n m found end one h =
     ap (λ (a : ℕ). winner_in a ++ (k ∷ found)) one.0 ∙ ap (λ (a : ℕ). winner_in a ++ found) (sym one.1) ∙ h
 
 entry_wins : (p : PlanData) (s : ℕ) (x : LedgerState) (e : Entry) → IsPlan p → HasRows p x → Fits p x e.by e.event e.shards → e.reply ≡ reply_of p x e.event
     → Wins (win_in s e.event e.reply) (slice_index x.winners s) (slice_index (after p x e.by e.event e.shards).winners s)
-entry_wins p s x e plan rows fits is = subst (λ (r : Reply). Wins (win_in s e.event r) (slice_index x.winners s) (slice_index (after p x e.by e.event e.shards).winners s)) (sym is)
+entry_wins p s x e plan rows fits is = subst (λ (r : Reply). Wins (win_in s e.event r) (slice_index x.winners s)
+    (slice_index (after p x e.by e.event e.shards).winners s)) (sym is)
     (win_step p x s e.by e.event e.shards plan rows fits)
 
 won_along : (p : PlanData) (s : ℕ) → IsPlan p → (x : LedgerState) (es : List Entry) → HasRows p x → IsLegalFrom p x es
@@ -208,22 +228,28 @@ settled_by_test x s n k c false is low low' h = h
 settled_by_test x s n k c true is low low' h = by_shard (c.shard == s) refl where
   by_shard : (b : Bool) → (c.shard == s) ≡ b → StandsOnce s (record x { winners = set x.winners c.shard (k + 1); unplaced = set x.unplaced c.shard (n + 1) })
   by_shard true same =
-      let free : once (slice_index x.winners s) ≡ 0 = ap (λ (i : ℕ). once (slice_index x.winners i)) (sym (eqb-true c.shard s same)) ∙ ap once (eqb-true (slice_index x.winners c.shard) 0 is) in
+      let free : once (slice_index x.winners s) ≡ 0 = ap (λ (i : ℕ). once (slice_index x.winners i))
+      (sym (eqb-true c.shard s same)) ∙ ap once (eqb-true (slice_index x.winners c.shard) 0 is) in
       let won : once (slice_index (set x.winners c.shard (k + 1)) s) ≡ 1 = ap once (set_here x.winners c.shard s (k + 1) low same) ∙ once_more k in
       let marked : once (slice_index (set x.unplaced c.shard (n + 1)) s) ≡ 1 = ap once (set_here x.unplaced c.shard s (n + 1) low' same) ∙ once_more n in
       omega (arith, h, free, won, marked)
   by_shard false other =
       let won : once (slice_index (set x.winners c.shard (k + 1)) s) ≡ once (slice_index x.winners s) = ap once (set_there x.winners c.shard s (k + 1) other) in
-      let marked : once (slice_index (set x.unplaced c.shard (n + 1)) s) ≡ once (slice_index x.unplaced s) = ap once (set_there x.unplaced c.shard s (n + 1) other) in
+      let marked : once (slice_index (set x.unplaced c.shard (n + 1)) s) ≡ once (slice_index x.unplaced s) =
+      ap once (set_there x.unplaced c.shard s (n + 1) other) in
       omega (arith, h, won, marked)
 
-stands_step : (p : PlanData) (s : ℕ) → IsPlan p → (x : LedgerState) (n : ℕ) (e : Event) (ss : List ℕ) → HasRows p x → Fits p x n e ss → StandsOnce s x → StandsOnce s (after p x n e ss)
+stands_step : (p : PlanData) (s : ℕ) → IsPlan p → (x : LedgerState) (n : ℕ) (e : Event) (ss : List ℕ) → HasRows p x
+    → Fits p x n e ss → StandsOnce s x → StandsOnce s (after p x n e ss)
 stands_step p s plan x n Draw ss rows fits h = either (StandsOnce s) (nat_lt x.drawn (count_of p)) (record x { drawn = x.drawn + 1 }) x h h
-stands_step p s plan x n (Number c) ss rows fits h = either (StandsOnce s) (nat_lt (slice_index x.given c.shard) p.attempts) (record x { given = set x.given c.shard (slice_index x.given c.shard + 1) }) x h h
+stands_step p s plan x n (Number c) ss rows fits h =
+    either (StandsOnce s) (nat_lt (slice_index x.given c.shard) p.attempts)
+    (record x { given = set x.given c.shard (slice_index x.given c.shard + 1) }) x h h
 stands_step p s plan x n (Died c k) ss rows fits h = h
 stands_step p s plan x n (Settle c k) ss rows fits h =
     let within = shard_within p x c plan fits.1.claim in
-    settled_by_test x s n k c (slice_index x.winners c.shard == 0) refl (let b = rows.winners in omega (arith, within, b)) (let b = rows.unplaced in omega (arith, within, b)) h
+    settled_by_test x s n k c (slice_index x.winners c.shard == 0) refl
+    (let b = rows.winners in omega (arith, within, b)) (let b = rows.unplaced in omega (arith, within, b)) h
 stands_step p s plan x n (LaneOut i) ss rows fits h = either (StandsOnce s) (slice_index x.outs i == 0) (record x { outs = set x.outs i 1 }) x h h
 stands_step p s plan x n (LaneBack i) ss rows fits h =
     let low : i < length x.lists = (let a = fits.within in let b = rows.lists in omega arith) in
@@ -258,11 +284,15 @@ one_death died x c k low true_is h s j bit = by_shard (c.shard == s) refl where
 pub death_step : (died : ℕ → ℕ → Type 0) (is_bad : ℕ → Type 0) (p : PlanData) → IsPlan p → (x : LedgerState) (n : ℕ) (e : Event) (ss : List ℕ) → HasRows p x
     → Fits p x n e ss → IsTrueReport died is_bad e → AreDeaths died x → AreDeaths died (after p x n e ss)
 death_step died is_bad p plan x n Draw ss rows fits t h = either (AreDeaths died) (nat_lt x.drawn (count_of p)) (record x { drawn = x.drawn + 1 }) x h h
-death_step died is_bad p plan x n (Number c) ss rows fits t h = either (AreDeaths died) (nat_lt (slice_index x.given c.shard) p.attempts) (record x { given = set x.given c.shard (slice_index x.given c.shard + 1) }) x h h
+death_step died is_bad p plan x n (Number c) ss rows fits t h =
+    either (AreDeaths died) (nat_lt (slice_index x.given c.shard) p.attempts)
+    (record x { given = set x.given c.shard (slice_index x.given c.shard + 1) }) x h h
 death_step died is_bad p plan x n (Died c k) ss rows fits t h =
     let within = shard_within p x c plan fits.1.claim in
     one_death died x c k (let b = rows.deaths in omega (arith, within, b)) t h
-death_step died is_bad p plan x n (Settle c k) ss rows fits t h = either (AreDeaths died) (slice_index x.winners c.shard == 0) (record x { winners = set x.winners c.shard (k + 1); unplaced = set x.unplaced c.shard (n + 1) }) x h h
+death_step died is_bad p plan x n (Settle c k) ss rows fits t h =
+    either (AreDeaths died) (slice_index x.winners c.shard == 0)
+    (record x { winners = set x.winners c.shard (k + 1); unplaced = set x.unplaced c.shard (n + 1) }) x h h
 death_step died is_bad p plan x n (LaneOut i) ss rows fits t h = either (AreDeaths died) (slice_index x.outs i == 0) (record x { outs = set x.outs i 1 }) x h h
 death_step died is_bad p plan x n (LaneBack i) ss rows fits t h = h
 death_step died is_bad p plan x n (Bad b) ss rows fits t h = h
@@ -286,31 +316,38 @@ no_list (suc n) s = let a = sum_by-cons (times s) [] (replicate n []) in let b =
 pub noted_deaths_are_true : (died : ℕ → ℕ → Type 0) (is_bad : ℕ → Type 0) → NotedDeathsAreTrue died is_bad
 noted_deaths_are_true died is_bad p lanes log plan legal t =
     deaths_along died is_bad p plan (opening p lanes) log (rows_open p lanes) legal.from t
-    (λ s k bit. absurd (let none : bit_at (slice_index (replicate p.shards 0) s) k ≡ 0 = ap (λ (d : ℕ). bit_at d k) (no_number p.shards s) ∙ bit_at-zero k in let one : bit_at (slice_index (replicate p.shards 0) s) k ≡ 1 = bit in omega (arith, none, one)))
+    (λ s k bit. absurd (let none : bit_at (slice_index (replicate p.shards 0) s) k ≡ 0 =
+    ap (λ (d : ℕ). bit_at d k) (no_number p.shards s) ∙ bit_at-zero k in
+    let one : bit_at (slice_index (replicate p.shards 0) s) k ≡ 1 = bit in omega (arith, none, one)))
 
 -- the number of tickets drawn, and of numbers given, is in its bounds
 abbrev InBounds : PlanData → LedgerState → Type 0
 InBounds p x = (x.drawn ≤ count_of p) × ((s : ℕ) → slice_index x.given s ≤ p.attempts)
 
-one_given : (p : PlanData) (x : LedgerState) (c : Claim) (b : Bool) → nat_lt (slice_index x.given c.shard) p.attempts ≡ b → c.shard < length x.given → InBounds p x
+one_given : (p : PlanData) (x : LedgerState) (c : Claim) (b : Bool)
+    → nat_lt (slice_index x.given c.shard) p.attempts ≡ b → c.shard < length x.given → InBounds p x
     → InBounds p (cond b (record x { given = set x.given c.shard (slice_index x.given c.shard + 1) }) x)
 one_given p x c false is low h = h
 one_given p x c true is low h = (h.0, λ s. here s (c.shard == s) refl) where
   here : (s : ℕ) (b : Bool) → (c.shard == s) ≡ b → slice_index (set x.given c.shard (slice_index x.given c.shard + 1)) s ≤ p.attempts
-  here s true same = let a = set_here x.given c.shard s (slice_index x.given c.shard + 1) low same in let b = ltb-true (slice_index x.given c.shard) p.attempts is in omega (arith, a, b)
+  here s true same = let a = set_here x.given c.shard s (slice_index x.given c.shard + 1) low same in
+      let b = ltb-true (slice_index x.given c.shard) p.attempts is in omega (arith, a, b)
   here s false other = let a = set_there x.given c.shard s (slice_index x.given c.shard + 1) other in let b = h.1 s in omega (arith, a, b)
 
-one_drawn : (p : PlanData) (x : LedgerState) (b : Bool) → nat_lt x.drawn (count_of p) ≡ b → InBounds p x → InBounds p (cond b (record x { drawn = x.drawn + 1 }) x)
+one_drawn : (p : PlanData) (x : LedgerState) (b : Bool) → nat_lt x.drawn (count_of p) ≡ b → InBounds p x
+    → InBounds p (cond b (record x { drawn = x.drawn + 1 }) x)
 one_drawn p x true is h = ((let a = ltb-true x.drawn (count_of p) is in omega arith), h.1)
 one_drawn p x false is h = h
 
-bounds_step : (p : PlanData) → IsPlan p → (x : LedgerState) (n : ℕ) (e : Event) (ss : List ℕ) → HasRows p x → Fits p x n e ss → InBounds p x → InBounds p (after p x n e ss)
+bounds_step : (p : PlanData) → IsPlan p → (x : LedgerState) (n : ℕ) (e : Event) (ss : List ℕ) → HasRows p x
+    → Fits p x n e ss → InBounds p x → InBounds p (after p x n e ss)
 bounds_step p plan x n Draw ss rows fits h = one_drawn p x (nat_lt x.drawn (count_of p)) refl h
 bounds_step p plan x n (Number c) ss rows fits h =
     let within = shard_within p x c plan fits.1 in
     one_given p x c (nat_lt (slice_index x.given c.shard) p.attempts) refl (let b = rows.given in omega (arith, within, b)) h
 bounds_step p plan x n (Died c k) ss rows fits h = h
-bounds_step p plan x n (Settle c k) ss rows fits h = either (InBounds p) (slice_index x.winners c.shard == 0) (record x { winners = set x.winners c.shard (k + 1); unplaced = set x.unplaced c.shard (n + 1) }) x h h
+bounds_step p plan x n (Settle c k) ss rows fits h = either (InBounds p) (slice_index x.winners c.shard == 0)
+    (record x { winners = set x.winners c.shard (k + 1); unplaced = set x.unplaced c.shard (n + 1) }) x h h
 bounds_step p plan x n (LaneOut i) ss rows fits h = either (InBounds p) (slice_index x.outs i == 0) (record x { outs = set x.outs i 1 }) x h h
 bounds_step p plan x n (LaneBack i) ss rows fits h = h
 bounds_step p plan x n (Bad b) ss rows fits h = h
@@ -324,7 +361,8 @@ each_shard_counts_once p lanes log plan legal =
     let anywhere : (s : ℕ) → StandsOnce s (left_by p lanes log) = λ s. kept_on p (StandsOnce s) (stands_step p s plan) start log rows legal.from
     (let b = no_list lanes s in omega (arith, b)) in
     record {
-      tickets = from_opening 0 (left_by p lanes log).drawn _ refl (counted p (λ e. ticket_in e.reply) (λ x. x.drawn) (ticket_counts p) start log rows legal.from);
+      tickets = from_opening 0 (left_by p lanes log).drawn _ refl
+          (counted p (λ e. ticket_in e.reply) (λ x. x.drawn) (ticket_counts p) start log rows legal.from);
       drawn = bounds.0;
       numbers = λ s. from_opening (slice_index start.given s) (slice_index (left_by p lanes log).given s) _ (no_number p.shards s)
           (counted p (λ e. number_in s e.event e.reply) (λ x. slice_index x.given s) (number_counts p s plan) start log rows legal.from);
@@ -345,4 +383,5 @@ rows_along p x (e ∷ es) rows = rows_along p (after p x e.by e.event e.shards) 
 pub the_winner_stays : TheWinnerStays
 the_winner_stays p lanes front back s w plan legal is =
     let r = legal_front p (opening p lanes) front back legal.from in
-    ap (λ (x : LedgerState). slice_index x.winners s) r.2 ∙ stays_won p s w plan (left_by p lanes front) back (rows_along p (opening p lanes) front (rows_open p lanes)) r.1 is
+    ap (λ (x : LedgerState). slice_index x.winners s) r.2 ∙ stays_won p s w plan (left_by p lanes front) back
+    (rows_along p (opening p lanes) front (rows_open p lanes)) r.1 is

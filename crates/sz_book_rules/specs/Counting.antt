@@ -58,8 +58,9 @@ times_anywhere x s = sum_by (times s) x.lists + once (slice_index x.unplaced s)
 abbrev pub IsLost : PlanData → LedgerState → ℕ → Type 0
 IsLost p x s = (k : ℕ) → k < p.attempts → bit_at (slice_index x.deaths s) k ≡ 1
 
--- What a history leaves: the tickets drawn are 0, 1, 2 and so on, each once, and so are the numbers given for each shard, below the
--- number of attempts; a shard was won at most once; it stands once in the lanes or outside if it is settled, and else nowhere
+-- What a history leaves: the tickets drawn are 0, 1, 2 and so on, each once, and so are the numbers given for each
+-- shard, below the number of attempts; a shard was won at most once; it stands once in the lanes or outside if it is
+-- settled, and else nowhere
 pub record CountsOnce (p : PlanData) (x : LedgerState) (log : List Entry) : Type 0 where
   pub tickets : tickets_drawn log ≡ range_with_len 0 x.drawn
   pub drawn : x.drawn ≤ count_of p
@@ -74,12 +75,14 @@ left_by p lanes log = state_after p (opening p lanes) log
 
 -- each history counts once
 abbrev pub EachShardCountsOnce : Type 0
-EachShardCountsOnce = (p : PlanData) (lanes : ℕ) (log : List Entry) → IsPlan p → IsLegal p lanes log → CountsOnce p (left_by p lanes log) log
+EachShardCountsOnce = (p : PlanData) (lanes : ℕ) (log : List Entry) → IsPlan p → IsLegal p lanes log
+    → CountsOnce p (left_by p lanes log) log
 
 -- a shard that is settled keeps its winner, whatever comes after
 abbrev pub TheWinnerStays : Type 0
-TheWinnerStays = (p : PlanData) (lanes : ℕ) (front back : List Entry) (s w : ℕ) → IsPlan p → IsLegal p lanes (front ++ back)
-    → slice_index (left_by p lanes front).winners s ≡ w + 1 → slice_index (left_by p lanes (front ++ back)).winners s ≡ w + 1
+TheWinnerStays = (p : PlanData) (lanes : ℕ) (front back : List Entry) (s w : ℕ) → IsPlan p
+    → IsLegal p lanes (front ++ back) → slice_index (left_by p lanes front).winners s ≡ w + 1
+    → slice_index (left_by p lanes (front ++ back)).winners s ≡ w + 1
 
 -- where reports are true, each noted death is of an attempt that died
 abbrev pub NotedDeathsAreTrue : (ℕ → ℕ → Type 0) → (ℕ → Type 0) → Type 0
@@ -88,6 +91,7 @@ NotedDeathsAreTrue died is_bad = (p : PlanData) (lanes : ℕ) (log : List Entry)
 
 -- once each ticket has ended, each shard below the least bad one of which not all attempts died is settled
 abbrev pub EachShardIsDecided : Type 0
-EachShardIsDecided = (p : PlanData) (lanes : ℕ) (log : List Entry) (phases : List Phase) → IsPlan p → IsLegal p lanes log
-    → IsOrderly p log phases → HaveEnded p log phases → (s : ℕ) → s < p.shards → s < (left_by p lanes log).least_bad
+EachShardIsDecided = (p : PlanData) (lanes : ℕ) (log : List Entry) (phases : List Phase) → IsPlan p
+    → IsLegal p lanes log → IsOrderly p log phases → HaveEnded p log phases → (s : ℕ) → s < p.shards
+    → s < (left_by p lanes log).least_bad
     → ¬ IsLost p (left_by p lanes log) s → 0 < slice_index (left_by p lanes log).winners s

@@ -22,7 +22,8 @@ state_after p x (e ∷ es) = state_after p (after p x e.by e.event e.shards) es
 abbrev pub IsLegalFrom : PlanData → LedgerState → List Entry → Type 0
 IsLegalFrom p x [] = Unit {0}
 IsLegalFrom p x (e ∷ es) =
-    Fits p x e.by e.event e.shards × (e.reply ≡ reply_of p x e.event) × IsLegalFrom p (after p x e.by e.event e.shards) es
+    Fits p x e.by e.event e.shards × (e.reply ≡ reply_of p x e.event)
+    × IsLegalFrom p (after p x e.by e.event e.shards) es
 
 -- the history is legal: it replays from the opening of a ledger with so many lanes
 pub record IsLegal (p : PlanData) (lanes : ℕ) (log : List Entry) : Type 0 where
@@ -81,8 +82,8 @@ AreDistinct (s ∷ ss) = ¬ IsAmong s ss × AreDistinct ss
 abbrev pub AreApart : List ℕ → List ℕ → Type 0
 AreApart ss ts = (s : ℕ) → IsAmong s ss → ¬ IsAmong s ts
 
--- a reported death is of an attempt that died, and a shard marked bad is bad: more of its records fault than may be passed over, and
--- not all its attempts died
+-- a reported death is of an attempt that died, and a shard marked bad is bad: more of its records fault than may be
+-- passed over, and not all its attempts died
 abbrev pub IsTrueReport : (ℕ → ℕ → Type 0) → (ℕ → Type 0) → Event → Type 0
 IsTrueReport died is_bad (Died c k) = died c.shard k
 IsTrueReport died is_bad (Bad s) = is_bad s

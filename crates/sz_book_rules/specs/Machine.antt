@@ -7,8 +7,9 @@ use Rattle.sz_book_rules.specs.declared.event.Event.TheVariants.{Draw, Number, D
 use Rattle.sz_book_rules.specs.declared.event.Reply.{Reply}
 use Rattle.sz_book_rules.specs.declared.event.Reply.TheVariants.{Ticket, Number as Numbered, Noted, Won, Late, Lane}
 
--- How many tickets were drawn. For each shard, how many numbers were given, the attempts whose deaths were noted as the sum of
--- their powers of two, 0 or 1 more than the winner, and 0 or 1 more than the caller who won it and has not put it into a lane.
+-- How many tickets were drawn. For each shard, how many numbers were given, the attempts whose deaths were noted as
+-- the sum of their powers of two, 0 or 1 more than the winner, and 0 or 1 more than the caller who won it and has not
+-- put it into a lane.
 -- The least bad shard, or 2 ^ 32 where there is none. For each lane, 1 where it is out, and the shards in it.
 pub record LedgerState : Type 0 where
   pub drawn : ℕ
@@ -84,12 +85,19 @@ abbrev pub after : PlanData → LedgerState → ℕ → Event → List ℕ → L
 after p x n Draw shards = if nat_lt x.drawn (count_of p) then record x { drawn = x.drawn + 1 } else x
 after p x n (Number c) shards = if nat_lt (slice_index x.given c.shard) p.attempts
     then record x { given = slice_set x.given c.shard (slice_index x.given c.shard + 1) } else x
-after p x n (Died c k) shards = record x { deaths = slice_set x.deaths c.shard (bit_or (slice_index x.deaths c.shard) (2 ^ k)) }
+after p x n (Died c k) shards = record x {
+  deaths = slice_set x.deaths c.shard (bit_or (slice_index x.deaths c.shard) (2 ^ k));
+}
 after p x n (Settle c k) shards = if slice_index x.winners c.shard == 0
-    then record x { winners = slice_set x.winners c.shard (k + 1); unplaced = slice_set x.unplaced c.shard (n + 1) } else x
+    then record x { winners = slice_set x.winners c.shard (k + 1); unplaced = slice_set x.unplaced c.shard (n + 1) }
+    else x
 after p x n (LaneOut i) shards = if slice_index x.outs i == 0 then record x { outs = slice_set x.outs i 1 } else x
 after p x n (LaneBack i) shards =
-    record x { outs = slice_set x.outs i 0; lists = slice_set x.lists i (list_of x i ++ shards); unplaced = placed x.unplaced shards }
+    record x {
+      outs = slice_set x.outs i 0;
+      lists = slice_set x.lists i (list_of x i ++ shards);
+      unplaced = placed x.unplaced shards;
+    }
 after p x n (Bad s) shards = record x { least_bad = min x.least_bad s }
 
 -- the reply to a draw where n tickets were drawn
@@ -115,7 +123,8 @@ reply_of p x (LaneBack i) = Noted
 reply_of p x (Bad s) = Noted
 
 -- a step of the ledger: the event fits the state, and the reply and the next state are those that the event gives
-pub record IsStep (p : PlanData) (x : LedgerState) (n : ℕ) (event : Event) (shards : List ℕ) (reply : Reply) (y : LedgerState) : Type 0 where
+pub record IsStep (p : PlanData) (x : LedgerState) (n : ℕ) (event : Event) (shards : List ℕ) (reply : Reply)
+    (y : LedgerState) : Type 0 where
   pub fits : Fits p x n event shards
   pub answer : reply ≡ reply_of p x event
   pub next : y ≡ after p x n event shards

@@ -41,8 +41,8 @@ abbrev pub Asks : List Phase → ℕ → Option ℕ → List Phase → Type 0
 Asks old t (Some k) new = Goes old t asks (tries k) new
 Asks old t None new = Goes old t asks ended new
 
--- An event with its reply takes the tickets from their old phases to the new ones: after the draw a ticket asks for a number, reports
--- of each number that it is given, and asks again only after a death
+-- An event with its reply takes the tickets from their old phases to the new ones: after the draw a ticket asks for a
+-- number, reports of each number that it is given, and asks again only after a death
 abbrev pub Turns : PlanData → List Phase → Event → Reply → List Phase → Type 0
 Turns p old Draw (Ticket found) new = Draws old found new
 Turns p old (Number c) (Numbered found) new = Asks old c.ticket found new

@@ -19,29 +19,37 @@ get_after [] xs = refl
 get_after (x ∷ f) xs = get_after f xs
 
 -- a character of the rest is a character of the text
-pub character_after : (count : ℕ) (text rest : List ℕ) → IsRestAfter count text rest → slice_get (chars text) count ≡ slice_get (chars rest) 0
+pub character_after : (count : ℕ) (text rest : List ℕ) → IsRestAfter count text rest
+    → slice_get (chars text) count ≡ slice_get (chars rest) 0
 character_after count text rest h =
-    sym (ap (λ n. slice_get (chars text) n) h.many) ∙ ap (λ cs. slice_get cs (length h.front)) h.characters ∙ get_after h.front (chars rest)
+    sym (ap (λ n. slice_get (chars text) n) h.many) ∙ ap (λ cs. slice_get cs (length h.front)) h.characters
+    ∙ get_after h.front (chars rest)
 
 -- two cuts one after the other take the characters between them
-pub characters_between : (skip count : ℕ) (text tail rest : List ℕ) → IsRestAfter skip text tail → IsRestAfter count tail rest
+pub characters_between : (skip count : ℕ) (text tail rest : List ℕ) → IsRestAfter skip text tail
+    → IsRestAfter count tail rest
     → take (length tail - length rest) tail ≡ encode_utf8_all (take count (drop skip (chars text)))
 characters_between skip count text tail rest h k =
     let bytes = ap length k.whole ∙ length-append (encode_utf8_all k.front) rest in
     let size : length tail - length rest ≡ length (encode_utf8_all k.front) = omega (arith, bytes) in
-    let left = ap (take (length tail - length rest)) k.whole ∙ take_at (encode_utf8_all k.front) rest (length tail - length rest) (sym size) in
-    let after : drop skip (chars text) ≡ chars tail = ap (drop skip) h.characters ∙ drop_at h.front (chars tail) skip h.many in
-    let taken : take count (chars tail) ≡ k.front = ap (take count) k.characters ∙ take_at k.front (chars rest) count k.many in
+    let left = ap (take (length tail - length rest)) k.whole
+    ∙ take_at (encode_utf8_all k.front) rest (length tail - length rest) (sym size) in
+    let after : drop skip (chars text) ≡ chars tail =
+    ap (drop skip) h.characters ∙ drop_at h.front (chars tail) skip h.many in
+    let taken : take count (chars tail) ≡ k.front =
+    ap (take count) k.characters ∙ take_at k.front (chars rest) count k.many in
     left ∙ sym (ap (λ cs. encode_utf8_all (take count cs)) after ∙ ap encode_utf8_all taken)
 
 -- they aren't more than the text has
-pub within_text : (skip count : ℕ) (text tail rest : List ℕ) → IsRestAfter skip text tail → IsRestAfter count tail rest → skip + count ≤ length (chars text)
+pub within_text : (skip count : ℕ) (text tail rest : List ℕ) → IsRestAfter skip text tail
+    → IsRestAfter count tail rest → skip + count ≤ length (chars text)
 within_text skip count text tail rest h k =
     let e = ap length h.characters ∙ length-append h.front (chars tail) in
     let d = ap length k.characters ∙ length-append k.front (chars rest) in omega (arith, e, d, h.many, k.many)
 
 -- the text may be cut at the second of them
-pub cut_between : (count : ℕ) (tail rest : List ℕ) → IsRestAfter count tail rest → IsCharBoundary tail (length tail - length rest)
+pub cut_between : (count : ℕ) (tail rest : List ℕ) → IsRestAfter count tail rest
+    → IsCharBoundary tail (length tail - length rest)
 cut_between count tail rest k =
     let bytes = ap length k.whole ∙ length-append (encode_utf8_all k.front) rest in
     let size : length (encode_utf8_all k.front) ≡ length tail - length rest = omega (arith, bytes) in
@@ -58,14 +66,17 @@ pub ascii_length : (text : List ℕ) → is_ascii text ≡ true → length text 
 ascii_length text h = sym (ap length (ascii_characters text h))
 
 -- and as many stand before a place as the place says
-pub ascii_before : (text : List ℕ) (at : ℕ) → is_ascii text ≡ true → at ≤ length text → at ≡ length (chars (take at text))
-ascii_before text at h within = sym (ap length (ascii_characters (take at text) (ascii_part text 0 at h)) ∙ length-take-le at text within)
+pub ascii_before : (text : List ℕ) (at : ℕ) → is_ascii text ≡ true → at ≤ length text
+    → at ≡ length (chars (take at text))
+ascii_before text at h within =
+    sym (ap length (ascii_characters (take at text) (ascii_part text 0 at h)) ∙ length-take-le at text within)
 
 -- a part of it by characters is one by bytes
 pub ascii_part_is : (text : List ℕ) (p : ℕ × ℕ) → is_ascii text ≡ true
     → option_map str (cut text p) ≡ option_map (λ cs. str (encode_utf8_all cs)) (cut (chars text) p)
 ascii_part_is text p h =
-    at (nat_le (p.0 + p.1) (length text)) ∙ ap (λ cs. option_map (λ part. str (encode_utf8_all part)) (cut cs p)) (sym (ascii_characters text h))
+    at (nat_le (p.0 + p.1) (length text))
+    ∙ ap (λ cs. option_map (λ part. str (encode_utf8_all part)) (cut cs p)) (sym (ascii_characters text h))
   where
     part : List ℕ
     part = take p.1 (drop p.0 text)
@@ -73,7 +84,8 @@ ascii_part_is text p h =
     same : encode_utf8_all part ≡ part
     same = encodes-IsAscii part (passes_ascii part (ascii_part text p.0 p.1 h))
 
-    at : (b : Bool) → option_map str (if b then Some part else None) ≡ option_map (λ cs. str (encode_utf8_all cs)) (if b then Some part else None)
+    at : (b : Bool) → option_map str (if b then Some part else None)
+        ≡ option_map (λ cs. str (encode_utf8_all cs)) (if b then Some part else None)
     at true = ap (λ cs. Some (str cs)) (sym same)
     at false = refl
 
@@ -86,7 +98,8 @@ abbrev retold : Option Datum → Option Datum
 retold (Some (bytes part)) = Some (str part)
 retold _ = None
 
-text_slice_is : (text : List ℕ) (from to : ℤ) → is_ascii text ≡ true → slice (str text) from to ≡ retold (slice (bytes text) from to)
+text_slice_is : (text : List ℕ) (from to : ℤ) → is_ascii text ≡ true
+    → slice (str text) from to ≡ retold (slice (bytes text) from to)
 text_slice_is text from to h = at (span from to)
   where
     cut_retold : (o : Option (List ℕ)) → option_map str o ≡ retold (option_map bytes o)
@@ -98,10 +111,11 @@ text_slice_is text from to h = at (span from to)
     at (Some p) = sym (ascii_part_is text p h) ∙ cut_retold (cut text p)
 
 -- the slice of an ASCII text is that of its bytes
-pub text_slice : (text : List ℕ) (from to : ℤ) (part : List ℕ) → is_ascii text ≡ true → slice (bytes text) from to ≡ Some (bytes part)
-    → slice (str text) from to ≡ Some (str part)
+pub text_slice : (text : List ℕ) (from to : ℤ) (part : List ℕ) → is_ascii text ≡ true
+    → slice (bytes text) from to ≡ Some (bytes part) → slice (str text) from to ≡ Some (str part)
 text_slice text from to part h is = text_slice_is text from to h ∙ ap retold is
 
 -- and where there is none, there is none
-pub no_text_slice : (text : List ℕ) (from to : ℤ) → is_ascii text ≡ true → slice (bytes text) from to ≡ None → slice (str text) from to ≡ None
+pub no_text_slice : (text : List ℕ) (from to : ℤ) → is_ascii text ≡ true → slice (bytes text) from to ≡ None
+    → slice (str text) from to ≡ None
 no_text_slice text from to h is = text_slice_is text from to h ∙ ap retold is

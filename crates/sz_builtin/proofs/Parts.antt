@@ -21,9 +21,11 @@ pairs_back [] = refl
 pairs_back (p ∷ ps) = ap (λ qs. p ∷ qs) (pairs_back ps)
 
 -- the keys of a front with the next pair
-pub keys_taken : (ps : List (Datum × Datum)) (i : ℕ) (p : Datum × Datum) → slice_get ps i ≡ Some p → keys_of (take (i + 1) ps) ≡ keys_of (take i ps) ++ p.0 ∷ []
+pub keys_taken : (ps : List (Datum × Datum)) (i : ℕ) (p : Datum × Datum) → slice_get ps i ≡ Some p
+    → keys_of (take (i + 1) ps) ≡ keys_of (take i ps) ++ p.0 ∷ []
 keys_taken ps i p is =
-    ap keys_of (take_more ps i p (slice_get_within ps i p is) ∙ ap (λ q. take i ps ++ q ∷ []) (get_or_from_slice_get ps i p p is))
+    ap keys_of (take_more ps i p (slice_get_within ps i p is)
+    ∙ ap (λ q. take i ps ++ q ∷ []) (get_or_from_slice_get ps i p p is))
     ∙ map-append (λ q. q.0) (take i ps) (p ∷ [])
 
 -- a part of the data is the data of the part
@@ -33,11 +35,13 @@ cut_map f xs p = rw (length-map xs f) (at (nat_le (p.0 + p.1) (length xs)))
     same : take p.1 (drop p.0 (map f xs)) ≡ map f (take p.1 (drop p.0 xs))
     same = ap (take p.1) (drop-map f p.0 xs) ∙ take-map f p.1 (drop p.0 xs)
 
-    at : (b : Bool) → (if b then Some (take p.1 (drop p.0 (map f xs))) else None) ≡ option_map (map f) (if b then Some (take p.1 (drop p.0 xs)) else None)
+    at : (b : Bool) → (if b then Some (take p.1 (drop p.0 (map f xs))) else None)
+        ≡ option_map (map f) (if b then Some (take p.1 (drop p.0 xs)) else None)
     at true = ap Some same
     at false = refl
 
 pub array_cut : (vs part : List Value) (ds : List Datum) (p : ℕ × ℕ) → cut vs p ≡ Some part → ds ≡ map seen part
     → Some (array (data_of ds)) ≡ option_map (λ es. array (data_of es)) (cut (map seen vs) p)
 array_cut vs part ds p cuts copied =
-    ap (λ es. Some (array (data_of es))) copied ∙ sym (ap (option_map (λ es. array (data_of es))) (cut_map seen vs p ∙ ap (option_map (map seen)) cuts))
+    ap (λ es. Some (array (data_of es))) copied
+    ∙ sym (ap (option_map (λ es. array (data_of es))) (cut_map seen vs p ∙ ap (option_map (map seen)) cuts))

@@ -11,8 +11,8 @@ use Rattle.std.specs.Ordering.{is_eq, is_ne, is_lt, is_le, is_gt, is_ge}
 use Rattle.sz_value.specs.Order.{compare}
 use Rattle.sz_builtin.specs.Operators.{sum, difference, of_numbers, on_numbers}
 use Rattle.sz_types.specs.Rows.{sum_row, difference_row, unary_row, both_int, ordered}
-use Rattle.sz_typing_rules.specs.Types.{has_type, all_have}
-use Rattle.sz_typing_rules.proofs.ForCallers.{of_truth, of_int, of_time, of_str, of_bytes, of_array}
+use Rattle.sz_types.specs.Types.{has_type, all_have}
+use Rattle.sz_types.proofs.TypingForCallers.{of_truth, of_int, of_time, of_str, of_bytes, of_array}
 use Rattle.sz_builtin.specs.Types.{KeepsUnary, KeepsBinary}
 
 pub some_same : {X : Type 0} (x y : X) → Some x ≡ Some y → x ≡ y
@@ -30,15 +30,18 @@ pub both_in : {a b : Bool} → a ≡ true → b ≡ true → (a && b) ≡ true
 both_in {a} {b} h k = ap (λ c. c && b) h ∙ k
 
 -- the parts of two arrays have the type of both
-joined_have : (ds es : Data) (e : Shape) → all_have ds e ≡ true → all_have es e ≡ true → all_have (data_of (parts_of ds ++ parts_of es)) e ≡ true
+joined_have : (ds es : Data) (e : Shape) → all_have ds e ≡ true → all_have es e ≡ true
+    → all_have (data_of (parts_of ds ++ parts_of es)) e ≡ true
 joined_have no_data es e h k = back es e k
   where
     back : (es : Data) (e : Shape) → all_have es e ≡ true → all_have (data_of (parts_of es)) e ≡ true
     back no_data e k = refl
     back (datum d es) e k = let p = both (has_type d e) (all_have es e) k in both_in p.0 (back es e p.1)
-joined_have (datum d ds) es e h k = let p = both (has_type d e) (all_have ds e) h in both_in p.0 (joined_have ds es e p.1 k)
+joined_have (datum d ds) es e h k = let p = both (has_type d e) (all_have ds e) h in
+    both_in p.0 (joined_have ds es e p.1 k)
 
-sum_keeps : (a b : Datum) (s t u : Shape) → has_type a s ≡ true → has_type b t ≡ true → sum_row s t ≡ Some u → IfSome (sum a b) (λ d. has_type d u ≡ true)
+sum_keeps : (a b : Datum) (s t u : Shape) → has_type a s ≡ true → has_type b t ≡ true → sum_row s t ≡ Some u
+    → IfSome (sum a b) (λ d. has_type d u ≡ true)
 sum_keeps (int a) (int b) s t u h k r = subst (λ v. has_type (int a) v ≡ true)
     (some_same _ _ ((λ i. sum_row (of_int a s h i) (of_int b t k i)) ∙ r)) refl
 sum_keeps (time a) (int b) s t u h k r = subst (λ v. has_type (time a) v ≡ true)
@@ -52,17 +55,19 @@ sum_keeps (array ds) (array es) s t u h k r =
     let q = of_array es t k in
     arrays p.0 q.0 p.2 q.2 ((λ i. sum_row (p.1 i) (q.1 i)) ∙ r) (alike p.0 q.0) refl
   where
-    arrays : (e f : Shape) → all_have ds e ≡ true → all_have es f ≡ true → (if alike e f then Some (Shape.array e) else None) ≡ Some u
+    arrays : (e f : Shape) → all_have ds e ≡ true → all_have es f ≡ true
+        → (if alike e f then Some (Shape.array e) else None) ≡ Some u
         → (b : Bool) → alike e f ≡ b → has_type (array (data_of (parts_of ds ++ parts_of es))) u ≡ true
     arrays e f h k r true same =
         subst (λ v. has_type (array (data_of (parts_of ds ++ parts_of es))) v ≡ true)
         (some_same _ _ (sym (ap (λ b. if b then Some (Shape.array e) else None) same) ∙ r))
         (joined_have ds es e h (subst (λ v. all_have es v ≡ true) (sym (alike_equal e f same)) k))
-    arrays e f h k r false same = absurd (let n = sym (ap (λ b. if b then Some (Shape.array e) else None) same) ∙ r in cc)
+    arrays e f h k r false same =
+        absurd (let n = sym (ap (λ b. if b then Some (Shape.array e) else None) same) ∙ r in cc)
 sum_keeps a b s t u h k r = tt
 
-difference_keeps : (a b : Datum) (s t u : Shape) → has_type a s ≡ true → has_type b t ≡ true → difference_row s t ≡ Some u
-    → IfSome (difference a b) (λ d. has_type d u ≡ true)
+difference_keeps : (a b : Datum) (s t u : Shape) → has_type a s ≡ true → has_type b t ≡ true
+    → difference_row s t ≡ Some u → IfSome (difference a b) (λ d. has_type d u ≡ true)
 difference_keeps (int a) (int b) s t u h k r = subst (λ v. has_type (int a) v ≡ true)
     (some_same _ _ ((λ i. difference_row (of_int a s h i) (of_int b t k i)) ∙ r)) refl
 difference_keeps (time a) (int b) s t u h k r = subst (λ v. has_type (time a) v ≡ true)
@@ -71,7 +76,8 @@ difference_keeps (time a) (time b) s t u h k r = subst (λ v. has_type (int a) v
     (some_same _ _ ((λ i. difference_row (of_time a s h i) (of_time b t k i)) ∙ r)) refl
 difference_keeps a b s t u h k r = tt
 
-numbers_keep : (f : ℤ → ℤ → Option ℤ) (a b : Datum) (u : Shape) → Shape.int ≡ u → IfSome (on_numbers f a b) (λ d. has_type d u ≡ true)
+numbers_keep : (f : ℤ → ℤ → Option ℤ) (a b : Datum) (u : Shape) → Shape.int ≡ u
+    → IfSome (on_numbers f a b) (λ d. has_type d u ≡ true)
 numbers_keep f (int a) (int b) u e = at (f a b)
   where
     at : (r : Option ℤ) → IfSome (option_map int r) (λ d. has_type d u ≡ true)
@@ -95,8 +101,12 @@ binary_keeps GreaterEqual a b s t u h k r = truth_keeps (is_ge (compare a b)) u 
 binary_keeps op a b s t u h k r = numbers_keep (of_numbers op) a b u (if_some (both_int s t) Shape.int u r)
 
 pub unary_keeps : KeepsUnary
-unary_keeps Negate (int a) s u h r = subst (λ v. has_type (int a) v ≡ true) (some_same _ _ (ap (unary_row Negate) (of_int a s h) ∙ r)) refl
-unary_keeps Plus (int a) s u h r = subst (λ v. has_type (int a) v ≡ true) (some_same _ _ (ap (unary_row Plus) (of_int a s h) ∙ r)) refl
-unary_keeps Flip (int a) s u h r = subst (λ v. has_type (int a) v ≡ true) (some_same _ _ (ap (unary_row Flip) (of_int a s h) ∙ r)) refl
-unary_keeps Not (truth a) s u h r = subst (λ v. has_type (truth a) v ≡ true) (some_same _ _ (ap (unary_row Not) (of_truth a s h) ∙ r)) refl
+unary_keeps Negate (int a) s u h r =
+    subst (λ v. has_type (int a) v ≡ true) (some_same _ _ (ap (unary_row Negate) (of_int a s h) ∙ r)) refl
+unary_keeps Plus (int a) s u h r =
+    subst (λ v. has_type (int a) v ≡ true) (some_same _ _ (ap (unary_row Plus) (of_int a s h) ∙ r)) refl
+unary_keeps Flip (int a) s u h r =
+    subst (λ v. has_type (int a) v ≡ true) (some_same _ _ (ap (unary_row Flip) (of_int a s h) ∙ r)) refl
+unary_keeps Not (truth a) s u h r =
+    subst (λ v. has_type (truth a) v ≡ true) (some_same _ _ (ap (unary_row Not) (of_truth a s h) ∙ r)) refl
 unary_keeps op a s u h r = tt

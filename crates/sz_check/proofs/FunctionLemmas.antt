@@ -37,7 +37,8 @@ on b others locals = record { blocks = b ∷ others; locals = locals }
 abbrev moved : Scene → List Block → Scene
 moved s others = record { blocks = innermost_on s.blocks others; locals = s.locals }
 
--- parameters that were judged are declared with the types that they were judged to have, whatever is round the innermost block
+-- parameters that were judged are declared with the types that they were judged to have, whatever is round the
+-- innermost block
 record AreDeclared (ps : Params) (b : Block) (locals : List Shape) (front : Scene) : Type 0 where
   types : List Shape
   grown : front.locals ≡ locals ++ types
@@ -46,9 +47,11 @@ record AreDeclared (ps : Params) (b : Block) (locals : List Shape) (front : Scen
 -- parameters, from the innermost block and the variables so far
 abbrev AllDeclare : Params → Type 0
 AllDeclare ps =
-    (b : Block) (bs : List Block) (locals : List Shape) (front : Scene) → judge_parameters (on b bs locals) ps ≡ good front → AreDeclared ps b locals front
+    (b : Block) (bs : List Block) (locals : List Shape) (front : Scene)
+    → judge_parameters (on b bs locals) ps ≡ good front → AreDeclared ps b locals front
 
-module _ (n : Ident) (t : Typ) (ps : Params) (rest : AllDeclare ps) (b : Block) (bs : List Block) (locals : List Shape) (front : Scene) where
+module _ (n : Ident) (t : Typ) (ps : Params) (rest : AllDeclare ps) (b : Block) (bs : List Block)
+    (locals : List Shape) (front : Scene) where
   abbrev named : Shape → Named
   named u = record { name = n.text; meaning = names.variable (length locals) u }
 
@@ -78,11 +81,14 @@ module _ (n : Ident) (t : Typ) (ps : Params) (rest : AllDeclare ps) (b : Block) 
 all_declare : (ps : Params) → AllDeclare ps
 unfolding judge_parameters declare_parameters
 all_declare no_params b bs locals front h =
-    subst (AreDeclared no_params b locals) (good_is h) (record { types = []; grown = sym (append-nil locals); declared = λ others. refl })
-all_declare (param n t ps) b bs locals front h = by_type n t ps (all_declare ps) b bs locals front (judge_type (b ∷ bs) t) h
+    subst (AreDeclared no_params b locals) (good_is h)
+    (record { types = []; grown = sym (append-nil locals); declared = λ others. refl })
+all_declare (param n t ps) b bs locals front h =
+    by_type n t ps (all_declare ps) b bs locals front (judge_type (b ∷ bs) t) h
 
 -- what was judged in front of a function's own name is declared after it
-declared_again : (ps : Params) (blocks own : List Block) (front : Scene) → judge_parameters (front_of blocks) ps ≡ good front
+declared_again : (ps : Params) (blocks own : List Block) (front : Scene)
+    → judge_parameters (front_of blocks) ps ≡ good front
     → declare_parameters (front_of own) ps front.locals ≡ good (moved front (only is_seen_by_functions own))
 declared_again ps blocks own front h =
     let are = all_declare ps [] (only is_seen_by_functions blocks) [] front h in
@@ -91,7 +97,11 @@ declared_again ps blocks own front h =
 module _ (k : TopScene) (n : Ident) (ps : Params) (t : Typ) (ss : Stms) where
   -- the signature
   abbrev signature : Scene → Shape → Signature
-  signature front u = record { parameters = front.locals; result = u; emits = stms_emit (emits_by front.blocks) (n.text ∷ []) ss }
+  signature front u = record {
+    parameters = front.locals;
+    result = u;
+    emits = stms_emit (emits_by front.blocks) (n.text ∷ []) ss;
+  }
 
   -- what is after the parameters and the result: as it is judged, and by parts
   abbrev whole : Scene → Shape → Judged Found
@@ -102,14 +112,18 @@ module _ (k : TopScene) (n : Ident) (ps : Params) (t : Typ) (ss : Stms) where
 
   abbrev by_parts : Signature → Judged Found
   by_parts s =
-      names.declare n (names.function (length k.functions) s) (blocks_of k) >>= λ own. judge_body own ps s ss >>= λ body. Ok (finished k own s body)
+      names.declare n (names.function (length k.functions) s) (blocks_of k) >>= λ own. judge_body own ps s ss
+      >>= λ body. Ok (finished k own s body)
 
-  whole_is : (front : Scene) (u : Shape) → judge_parameters (front_of (blocks_of k)) ps ≡ good front → whole front u ≡ by_parts (signature front u)
+  whole_is : (front : Scene) (u : Shape) → judge_parameters (front_of (blocks_of k)) ps ≡ good front
+      → whole front u ≡ by_parts (signature front u)
   whole_is front u h =
-      ap (λ (f : List Block → Judged Found). names.declare n (names.function (length k.functions) (signature front u)) (blocks_of k) >>= f) (fun_ext (λ own.
+      ap (λ (f : List Block → Judged Found).
+      names.declare n (names.function (length k.functions) (signature front u)) (blocks_of k) >>= f) (fun_ext (λ own.
       rw (declared_again ps (blocks_of k) own front h)
       (assoc (judge_stms (in_function u) (moved front (only is_seen_by_functions own)) ss)
-      (λ body. Ok (record { locals = body.scene.locals; statements = body.stms })) (λ body. Ok (finished k own (signature front u) body)))))
+      (λ body. Ok (record { locals = body.scene.locals; statements = body.stms }))
+      (λ body. Ok (finished k own (signature front u) body)))))
 
   by_result : (front : Scene) → judge_parameters (front_of (blocks_of k)) ps ≡ good front → (j : Judged Shape)
       → (j >>= λ u. whole front u) ≡ ((j >>= λ u. Ok (signature front u)) >>= by_parts)
@@ -123,13 +137,15 @@ module _ (k : TopScene) (n : Ident) (ps : Params) (t : Typ) (ss : Stms) where
   by_front (Err r) h = refl
 
 -- a function is judged by its parts
-function_is : (k : TopScene) (n : Ident) (ps : Params) (t : Typ) (ss : Stms) → judge_function k n ps t ss ≡ judge_function_by_parts k n ps t ss
+function_is : (k : TopScene) (n : Ident) (ps : Params) (t : Typ) (ss : Stms)
+    → judge_function k n ps t ss ≡ judge_function_by_parts k n ps t ss
 function_is k n ps t ss = by_front k n ps t ss (judge_parameters (front_of (blocks_of k)) ps) refl
 
 -- ---- a function whose header is judged and whose own name is declared
 
-module _ (k : TopScene) (n : Ident) (ps : Params) (t : Typ) (ss : Stms) (s : Signature) (number : ℕ) (blocks own : List Block)
-    (header : judge_header (blocks_of k) n ps t ss ≡ Ok s) (next : number ≡ length k.functions) (same : blocks ≡ blocks_of k)
+module _ (k : TopScene) (n : Ident) (ps : Params) (t : Typ) (ss : Stms) (s : Signature) (number : ℕ)
+    (blocks own : List Block) (header : judge_header (blocks_of k) n ps t ss ≡ Ok s)
+    (next : number ≡ length k.functions) (same : blocks ≡ blocks_of k)
     (is : names.declare n (names.function number s) blocks ≡ Ok own) where
   -- its statements are left
   left : (judge_body own ps s ss >>= λ body. Ok (finished k own s body)) ≡ judge_function k n ps t ss
@@ -139,21 +155,31 @@ module _ (k : TopScene) (n : Ident) (ps : Params) (t : Typ) (ss : Stms) (s : Sig
       (subst (λ (m : ℕ). names.declare n (names.function m s) blocks ≡ Ok own) next is) in
       goes_on (names.declare n (names.function (length k.functions) s) (blocks_of k))
       (λ bs. judge_body bs ps s ss >>= λ body. Ok (finished k bs s body)) (judge_function k n ps t ss) own here
-      (goes_on (judge_header (blocks_of k) n ps t ss) (by_parts k n ps t ss) (judge_function k n ps t ss) s header (sym (function_is k n ps t ss)))
+      (goes_on (judge_header (blocks_of k) n ps t ss) (by_parts k n ps t ss) (judge_function k n ps t ss) s header
+      (sym (function_is k n ps t ss)))
 
   -- a refusal of its statements is that of the function
   pub body_fails : (e : JudgeError) → Stops e (judge_body own ps s ss) → Stops e (judge_function k n ps t ss)
-  body_fails e h = stops_then e (judge_body own ps s ss) (λ body. Ok (finished k own s body)) (judge_function k n ps t ss) h left
+  body_fails e h =
+      stops_then e (judge_body own ps s ss) (λ body. Ok (finished k own s body)) (judge_function k n ps t ss) h left
 
   -- what its statements make of it is the function
-  pub body_makes : (body : Body) → judge_body own ps s ss ≡ Ok body → judge_function k n ps t ss ≡ Ok (finished k own s body)
-  body_makes body made = sym (goes_on (judge_body own ps s ss) (λ body. Ok (finished k own s body)) (judge_function k n ps t ss) body made left)
+  pub body_makes : (body : Body) → judge_body own ps s ss ≡ Ok body
+      → judge_function k n ps t ss ≡ Ok (finished k own s body)
+  body_makes body made = sym (goes_on (judge_body own ps s ss) (λ body. Ok (finished k own s body))
+      (judge_function k n ps t ss) body made left)
 
 -- what is made of a function goes by these
-pub finished_same : (k j : TopScene) (own more : List Block) (s : Signature) (body : Body) → k.scene.locals ≡ j.scene.locals → k.tables ≡ j.tables
+pub finished_same : (k j : TopScene) (own more : List Block) (s : Signature) (body : Body)
+    → k.scene.locals ≡ j.scene.locals → k.tables ≡ j.tables
     → k.statics ≡ j.statics → k.functions ≡ j.functions → own ≡ more → finished k own s body ≡ finished j more s body
 finished_same k j own more s body locals tables statics functions blocks i =
-    finished (record { scene = record { blocks = []; locals = locals i }; tables = tables i; statics = statics i; functions = functions i }) (blocks i) s body
+    finished (record {
+      scene = record { blocks = []; locals = locals i };
+      tables = tables i;
+      statics = statics i;
+      functions = functions i;
+    }) (blocks i) s body
 
 -- ---- turns of the loop over parameters whose types are known
 
@@ -165,23 +191,29 @@ module _ (s : Scene) (ps : List Param) (us : List Ty) (i : ℕ) where
   declare_turn : (p : Param) (u : Ty) → i < length ps → i < length us → p ≡ get_or ps i p → u ≡ get_or us i u
       → rest s i ≡ (with_variable p.name (seen u) s >>= λ t. rest t (i + 1))
   unfolding declare_parameters
-  declare_turn p u within_ps within_us p_is u_is = rw (rest_more param_of ps i p within_ps p_is, rest_more seen us i u within_us u_is) refl
+  declare_turn p u within_ps within_us p_is u_is =
+      rw (rest_more param_of ps i p within_ps p_is, rest_more seen us i u within_us u_is) refl
 
   -- a parameter that is refused stops all, with a copy of its type
-  pub declare_fails : (p : Param) (u : Ty) (v : Shape) (e : JudgeError) (whole : Judged Scene) → i < length ps → i < length us → p ≡ get_or ps i p
+  pub declare_fails : (p : Param) (u : Ty) (v : Shape) (e : JudgeError) (whole : Judged Scene) → i < length ps
+      → i < length us → p ≡ get_or ps i p
       → u ≡ get_or us i u → v ≡ seen u → Stops e (with_variable p.name v s) → rest s i ≡ whole → Stops e whole
   declare_fails p u v e whole within_ps within_us p_is u_is same h so_far =
-      stops_then e (with_variable p.name (seen u) s) (λ t. rest t (i + 1)) whole (subst (λ w. Stops e (with_variable p.name w s)) same h)
+      stops_then e (with_variable p.name (seen u) s) (λ t. rest t (i + 1)) whole
+      (subst (λ w. Stops e (with_variable p.name w s)) same h)
       (sym (declare_turn p u within_ps within_us p_is u_is) ∙ so_far)
 
   -- a parameter that is declared leaves the others
-  pub declare_goes : (t : Scene) (p : Param) (u : Ty) (v : Shape) (whole : Judged Scene) → i < length ps → i < length us → p ≡ get_or ps i p
+  pub declare_goes : (t : Scene) (p : Param) (u : Ty) (v : Shape) (whole : Judged Scene) → i < length ps
+      → i < length us → p ≡ get_or ps i p
       → u ≡ get_or us i u → v ≡ seen u → with_variable p.name v s ≡ Ok t → rest s i ≡ whole → rest t (i + 1) ≡ whole
   declare_goes t p u v whole within_ps within_us p_is u_is same h so_far =
-      goes_on (with_variable p.name (seen u) s) (λ t. rest t (i + 1)) whole t (subst (λ w. with_variable p.name w s ≡ Ok t) same h)
+      goes_on (with_variable p.name (seen u) s) (λ t. rest t (i + 1)) whole t
+      (subst (λ w. with_variable p.name w s ≡ Ok t) same h)
       (sym (declare_turn p u within_ps within_us p_is u_is) ∙ so_far)
 
-  ended : (ps : List Param) (us : List Ty) → min (length ps) (length us) ≤ 0 → declare_parameters s (params_of (map param_of ps)) (map seen us) ≡ Ok s
+  ended : (ps : List Param) (us : List Ty) → min (length ps) (length us) ≤ 0
+      → declare_parameters s (params_of (map param_of ps)) (map seen us) ≡ Ok s
   unfolding declare_parameters
   ended [] us h = refl
   ended (p ∷ ps) [] h = refl
@@ -189,4 +221,5 @@ module _ (s : Scene) (ps : List Param) (us : List Ty) (i : ℕ) where
 
   -- nothing is left
   pub declare_ends : (whole : Judged Scene) → min (length ps) (length us) ≤ i → rest s i ≡ whole → whole ≡ Ok s
-  declare_ends whole over so_far = sym so_far ∙ ended (drop i ps) (drop i us) (omega (arith, over, length-drop i ps, length-drop i us))
+  declare_ends whole over so_far =
+      sym so_far ∙ ended (drop i ps) (drop i us) (omega (arith, over, length-drop i ps, length-drop i us))

@@ -83,4 +83,8 @@ judge_turns a s p c between t = turns_of s p c between (λ start. judge_inside (
 
 -- what contracts see of the parts of an emit
 abbrev pub emitted_of : Parts → Emitted
-emitted_of x = record { indexes = nodes_of (map node_of x.indexes.items); value = node_of x.value; weight = option_map node_of x.weight }
+emitted_of x = record {
+  indexes = nodes_of (map node_of x.indexes.items);
+  value = node_of x.value;
+  weight = option_map node_of x.weight;
+}

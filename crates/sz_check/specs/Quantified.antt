@@ -18,7 +18,11 @@ declared_of k vs = record { scene = scene_of k; variables = map variable_of vs }
 
 -- the variables and the condition
 abbrev pub front_of : Knowledge → KeptFront → Front
-front_of k f = record { scene = scene_of k; variables = map variable_of f.variables.items; condition = node_of f.condition }
+front_of k f = record {
+  scene = scene_of k;
+  variables = map variable_of f.variables.items;
+  condition = node_of f.condition;
+}
 
 -- a variable of the checked tree, where its name is known
 abbrev pub based_of : Knowledge → CheckedQuantified → Based

@@ -1,9 +1,9 @@
 -- Types that are known round a program, by their names.
 use Rattle.std.specs.Prelude.{List, ◌∷◌, map}
-use Rattle.sz_protofile_rules.specs.Types.{TypeShape}
+use Rattle.sz_protofile.specs.Types.{TypeShape}
 use Rattle.sz_check_rules.specs.Scene.{Scene}
 use Rattle.sz_check_names.specs.Knowledge.{Knowledge}
-use Rattle.sz_check_laws.specs.JudgingWithTypes.{NamedShape, named_type}
+use Rattle.sz_check_rules.specs.JudgingWithTypes.{NamedShape, named_type}
 
 -- a type as the judgement knows it, and types
 abbrev pub named_shape : TypeShape → NamedShape

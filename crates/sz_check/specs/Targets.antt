@@ -14,7 +14,12 @@ use Rattle.sz_check_rules.specs.JudgingPaths.{Target, stepped}
 
 -- where a path has come to
 abbrev pub target_seen : Reached → Target
-target_seen t = record { local = t.local; steps = map step_of t.steps.items; type = seen t.ty; assignable = t.assignable }
+target_seen t = record {
+  local = t.local;
+  steps = map step_of t.steps.items;
+  type = seen t.ty;
+  assignable = t.assignable;
+}
 
 -- a path by its name and its steps
 abbrev pub path_form : Ident → List StepForm → PathForm

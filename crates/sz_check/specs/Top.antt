@@ -12,7 +12,12 @@ use Rattle.sz_check_names.specs.Knowledge.{scene_of}
 
 -- what is known at the top level
 abbrev pub top_of : Top → TopScene
-top_of t = record { scene = scene_of t.known; tables = t.tables; statics = t.statics; functions = map signature_of t.functions.items }
+top_of t = record {
+  scene = scene_of t.known;
+  tables = t.tables;
+  statics = t.statics;
+  functions = map signature_of t.functions.items;
+}
 
 -- the items that a statement is
 abbrev pub items_in : Option CheckedItem → List Item

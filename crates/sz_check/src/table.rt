@@ -7,8 +7,8 @@ ghost use Rattle.sz_check_names.specs.Outcome.{Judges};
 
 use crate::top::Top;
 use std::alloc::Global;
+use sz_check_emits::judge_table_declaration;
 use sz_check_names::{Cause, JudgeError, Meaning};
-use sz_check_table::judge_table_declaration;
 use sz_core::Item;
 use sz_tree::{Name, Table};
 use sz_types::{TableDecl, copy_table};

@@ -22,32 +22,39 @@ use Rattle.sz_check_rules.proofs.TruthLemmas.{or_false, or_assoc}
 
 module _ (emits : List ℕ → Bool) (h : List (List ℕ)) where
   pub exps_turn : (es : List Expr) (i : ℕ) (e : Expr) → i < length es → e ≡ get_or es i e
-      → exps_emit emits h (exps_of (map tree_of (drop i es))) ≡ (exp_emits emits h (tree_of e) || exps_emit emits h (exps_of (map tree_of (drop (i + 1) es))))
+      → exps_emit emits h (exps_of (map tree_of (drop i es)))
+      ≡ (exp_emits emits h (tree_of e) || exps_emit emits h (exps_of (map tree_of (drop (i + 1) es))))
   unfolding exps_emit
   exps_turn es i e within is = rw (rest_more tree_of es i e within is) refl
 
-  pub exps_over : (es : List Expr) (i : ℕ) → length es ≤ i → exps_emit emits h (exps_of (map tree_of (drop i es))) ≡ false
+  pub exps_over : (es : List Expr) (i : ℕ) → length es ≤ i
+      → exps_emit emits h (exps_of (map tree_of (drop i es))) ≡ false
   unfolding exps_emit
   exps_over es i over = rw (rest_none tree_of es i over) refl
 
   pub pairs_turn : (ps : List Pair) (i : ℕ) (p : Pair) → i < length ps → p ≡ get_or ps i p
       → pairs_emit emits h (pairs_of (map pair_of (drop i ps)))
-      ≡ (exp_emits emits h (tree_of p.key) || exp_emits emits h (tree_of p.value) || pairs_emit emits h (pairs_of (map pair_of (drop (i + 1) ps))))
+      ≡ (exp_emits emits h (tree_of p.key) || exp_emits emits h (tree_of p.value)
+      || pairs_emit emits h (pairs_of (map pair_of (drop (i + 1) ps))))
   unfolding pairs_emit
   pairs_turn ps i p within is = rw (rest_more pair_of ps i p within is) refl
 
-  pub pairs_over : (ps : List Pair) (i : ℕ) → length ps ≤ i → pairs_emit emits h (pairs_of (map pair_of (drop i ps))) ≡ false
+  pub pairs_over : (ps : List Pair) (i : ℕ) → length ps ≤ i
+      → pairs_emit emits h (pairs_of (map pair_of (drop i ps))) ≡ false
   unfolding pairs_emit
   pairs_over ps i over = rw (rest_none pair_of ps i over) refl
 
-  step_front : (x : StepForm) (xs : List StepForm) → steps_emit emits h (x ∷ xs) ≡ (steps_emit emits h (x ∷ []) || steps_emit emits h xs)
+  step_front : (x : StepForm) (xs : List StepForm)
+      → steps_emit emits h (x ∷ xs) ≡ (steps_emit emits h (x ∷ []) || steps_emit emits h xs)
   unfolding steps_emit
   step_front (at_index e) xs = ap (λ b. b || steps_emit emits h xs) (sym (or_false (exp_emits emits h e)))
   step_front (at_field n) xs = refl
 
   pub steps_turn : (xs : List TreeStep) (i : ℕ) (x : TreeStep) → i < length xs → x ≡ get_or xs i x
-      → steps_emit emits h (map step_of (drop i xs)) ≡ (steps_emit emits h (step_of x ∷ []) || steps_emit emits h (map step_of (drop (i + 1) xs)))
-  steps_turn xs i x within is = ap (steps_emit emits h) (rest_more step_of xs i x within is) ∙ step_front (step_of x) (map step_of (drop (i + 1) xs))
+      → steps_emit emits h (map step_of (drop i xs))
+      ≡ (steps_emit emits h (step_of x ∷ []) || steps_emit emits h (map step_of (drop (i + 1) xs)))
+  steps_turn xs i x within is = ap (steps_emit emits h) (rest_more step_of xs i x within is)
+      ∙ step_front (step_of x) (map step_of (drop (i + 1) xs))
 
   pub steps_over : (xs : List TreeStep) (i : ℕ) → length xs ≤ i → steps_emit emits h (map step_of (drop i xs)) ≡ false
   unfolding steps_emit
@@ -57,28 +64,36 @@ module _ (emits : List ℕ → Bool) (h : List (List ℕ)) where
 
 module _ (emits : List ℕ → Bool) (h : List (List ℕ)) where
   -- a call whose name calls nothing that emits: its arguments decide
-  pub call_emits : (e : Expr) (n : Ident) (v : Vec Expr) (es : List Expr) (itself : Bool) → tree_of e ≡ call n (exps_of (map tree_of v.items))
-      → es ≡ v.items → itself ≡ calls emits h n.text → itself ≡ false → exps_emit emits h (exps_of (map tree_of es)) ≡ exp_emits emits h (tree_of e)
+  pub call_emits : (e : Expr) (n : Ident) (v : Vec Expr) (es : List Expr) (itself : Bool)
+      → tree_of e ≡ call n (exps_of (map tree_of v.items)) → es ≡ v.items → itself ≡ calls emits h n.text
+      → itself ≡ false → exps_emit emits h (exps_of (map tree_of es)) ≡ exp_emits emits h (tree_of e)
   unfolding exp_emits
   call_emits e n v es itself is items known silent =
       ap (λ (xs : List Expr). exps_emit emits h (exps_of (map tree_of xs))) items
-      ∙ sym (ap (exp_emits emits h) is ∙ ap (λ (b : Bool). b || exps_emit emits h (exps_of (map tree_of v.items))) (sym known ∙ silent))
+      ∙ sym (ap (exp_emits emits h) is
+      ∙ ap (λ (b : Bool). b || exps_emit emits h (exps_of (map tree_of v.items))) (sym known ∙ silent))
 
-  pub list_emits : (e : Expr) (p : Place) (v : Vec Expr) (es : List Expr) → tree_of e ≡ list p (exps_of (map tree_of v.items)) → es ≡ v.items
+  pub list_emits : (e : Expr) (p : Place) (v : Vec Expr) (es : List Expr)
+      → tree_of e ≡ list p (exps_of (map tree_of v.items)) → es ≡ v.items
       → exps_emit emits h (exps_of (map tree_of es)) ≡ exp_emits emits h (tree_of e)
   unfolding exp_emits
-  list_emits e p v es is items = ap (λ (xs : List Expr). exps_emit emits h (exps_of (map tree_of xs))) items ∙ sym (ap (exp_emits emits h) is)
+  list_emits e p v es is items = ap (λ (xs : List Expr). exps_emit emits h (exps_of (map tree_of xs))) items
+      ∙ sym (ap (exp_emits emits h) is)
 
-  pub map_emits : (e : Expr) (p : Place) (v : Vec Pair) (ps : List Pair) → tree_of e ≡ mapping p (pairs_of (map pair_of v.items)) → ps ≡ v.items
+  pub map_emits : (e : Expr) (p : Place) (v : Vec Pair) (ps : List Pair)
+      → tree_of e ≡ mapping p (pairs_of (map pair_of v.items)) → ps ≡ v.items
       → pairs_emit emits h (pairs_of (map pair_of ps)) ≡ exp_emits emits h (tree_of e)
   unfolding exp_emits
-  map_emits e p v ps is items = ap (λ (xs : List Pair). pairs_emit emits h (pairs_of (map pair_of xs))) items ∙ sym (ap (exp_emits emits h) is)
+  map_emits e p v ps is items = ap (λ (xs : List Pair). pairs_emit emits h (pairs_of (map pair_of xs))) items
+      ∙ sym (ap (exp_emits emits h) is)
 
   -- a block
-  pub block_emits : (s : Stmt) (p : Place) (v : Vec Stmt) (ss : List Stmt) → stm_of s ≡ block p (stms_of (map stm_of v.items)) → ss ≡ v.items
+  pub block_emits : (s : Stmt) (p : Place) (v : Vec Stmt) (ss : List Stmt)
+      → stm_of s ≡ block p (stms_of (map stm_of v.items)) → ss ≡ v.items
       → stms_emit emits h (stms_of (map stm_of ss)) ≡ stm_emits emits h (stm_of s)
   unfolding stm_emits
-  block_emits s p v ss is items = ap (λ (xs : List Stmt). stms_emit emits h (stms_of (map stm_of xs))) items ∙ sym (ap (stm_emits emits h) is)
+  block_emits s p v ss is items = ap (λ (xs : List Stmt). stms_emit emits h (stms_of (map stm_of xs))) items
+      ∙ sym (ap (stm_emits emits h) is)
 
 -- ---- names that are hidden by now
 
@@ -96,7 +111,8 @@ after_front h (declare n t e) = (n.text ∷ [], refl)
 after_front h (define n e) = (n.text ∷ [], refl)
 after_front h _ = ([], sym (append-nil h))
 
-pub first_front : (h : List (List ℕ)) (f : Option FirstForm) → (more : List (List ℕ)) × (hidden_after_first h f ≡ h ++ more)
+pub first_front : (h : List (List ℕ)) (f : Option FirstForm)
+    → (more : List (List ℕ)) × (hidden_after_first h f ≡ h ++ more)
 first_front h (Some (first_declare n t e)) = (n.text ∷ [], refl)
 first_front h (Some (first_define n e)) = (n.text ∷ [], refl)
 first_front h (Some (first_simple s)) = ([], sym (append-nil h))
@@ -132,35 +148,41 @@ hidden_length [] = refl
 hidden_length (x ∷ xs) = ap (λ n. suc n) (hidden_length xs)
 
 -- as many names as there were are those that there were, if they are still in front
-pub kept_front : (old mid : List (Bor Name)) (count : ℕ) (more : List (List ℕ)) → count ≡ length old → hidden_of mid ≡ hidden_of old ++ more
-    → hidden_of (take count mid) ≡ hidden_of old
+pub kept_front : (old mid : List (Bor Name)) (count : ℕ) (more : List (List ℕ)) → count ≡ length old
+    → hidden_of mid ≡ hidden_of old ++ more → hidden_of (take count mid) ≡ hidden_of old
 kept_front old mid count more counted is =
-    hidden_taken count mid ∙ ap (take count) is ∙ front_taken (hidden_of old) more count (counted ∙ sym (hidden_length old))
+    hidden_taken count mid ∙ ap (take count) is
+    ∙ front_taken (hidden_of old) more count (counted ∙ sym (hidden_length old))
 
-pub kept_taken : (old mid : List (Bor Name)) (count : ℕ) → count ≡ length old → take (length old) (hidden_of mid) ≡ hidden_of old
-    → hidden_of (take count mid) ≡ hidden_of old
+pub kept_taken : (old mid : List (Bor Name)) (count : ℕ) → count ≡ length old
+    → take (length old) (hidden_of mid) ≡ hidden_of old → hidden_of (take count mid) ≡ hidden_of old
 kept_taken old mid count counted is = hidden_taken count mid ∙ ap (λ n. take n (hidden_of mid)) counted ∙ is
 
 -- the names are those that there were after a statement, a `for` and a `when` too
-pub kept_later : (old mid : List (Bor Name)) (count : ℕ) (s : Stm) → count ≡ length old → hidden_of mid ≡ hidden_after (hidden_of old) s
-    → hidden_of (take count mid) ≡ hidden_of old
+pub kept_later : (old mid : List (Bor Name)) (count : ℕ) (s : Stm) → count ≡ length old
+    → hidden_of mid ≡ hidden_after (hidden_of old) s → hidden_of (take count mid) ≡ hidden_of old
 kept_later old mid count s counted is =
     let front = after_front (hidden_of old) s in
     kept_front old mid count front.0 counted (is ∙ front.1)
 
 pub kept_after_for : (old start mid : List (Bor Name)) (count : ℕ) (f : Option FirstForm) → count ≡ length old
-    → hidden_of start ≡ hidden_after_first (hidden_of old) f → hidden_of mid ≡ hidden_of start → hidden_of (take count mid) ≡ hidden_of old
+    → hidden_of start ≡ hidden_after_first (hidden_of old) f → hidden_of mid ≡ hidden_of start
+    → hidden_of (take count mid) ≡ hidden_of old
 kept_after_for old start mid count f counted is same =
     let front = first_front (hidden_of old) f in
     kept_front old mid count front.0 counted (same ∙ is ∙ front.1)
 
 -- names that are hidden for the condition of a `when`, and then others for the statement inside
-module _ (old first cut second : List (Bor Name)) (count : ℕ) (names inside : List (List ℕ)) (counted : count ≡ length old)
-    (is : hidden_of first ≡ hidden_of old ++ names) (cut_is : cut ≡ take count first) (later : hidden_of second ≡ hidden_of cut ++ inside) where
+module _ (old first cut second : List (Bor Name)) (count : ℕ) (names inside : List (List ℕ))
+    (counted : count ≡ length old)
+    (is : hidden_of first ≡ hidden_of old ++ names) (cut_is : cut ≡ take count first)
+    (later : hidden_of second ≡ hidden_of cut ++ inside) where
   pub hidden_inside : hidden_of second ≡ hidden_of old ++ inside
-  hidden_inside = later ∙ ap (λ (l : List (List ℕ)). l ++ inside) (ap hidden_of cut_is ∙ kept_front old first count names counted is)
+  hidden_inside = later
+      ∙ ap (λ (l : List (List ℕ)). l ++ inside) (ap hidden_of cut_is ∙ kept_front old first count names counted is)
 
-  pub kept_after_when : (after : List (Bor Name)) → hidden_of after ≡ hidden_of second → hidden_of (take count after) ≡ hidden_of old
+  pub kept_after_when : (after : List (Bor Name)) → hidden_of after ≡ hidden_of second
+      → hidden_of (take count after) ≡ hidden_of old
   kept_after_when after same = kept_front old after count inside counted (same ∙ hidden_inside)
 
 -- ---- turns of the loop over statements
@@ -168,25 +190,31 @@ module _ (old first cut second : List (Bor Name)) (count : ℕ) (names inside : 
 module _ (emits : List ℕ → Bool) (h : List (List ℕ)) (ts : List Stmt) (i : ℕ) where
   stms_turn : (t : Stmt) → i < length ts → t ≡ get_or ts i t
       → stms_emit emits h (stms_of (map stm_of (drop i ts)))
-      ≡ (stm_emits emits h (stm_of t) || stms_emit emits (hidden_after h (stm_of t)) (stms_of (map stm_of (drop (i + 1) ts))))
+      ≡ (stm_emits emits h (stm_of t)
+      || stms_emit emits (hidden_after h (stm_of t)) (stms_of (map stm_of (drop (i + 1) ts))))
   unfolding stms_emit
   stms_turn t within is = rw (rest_more stm_of ts i t within is) refl
 
-  pub stms_go : (t : Stmt) (found here whole : Bool) (k : List (List ℕ)) → i < length ts → t ≡ get_or ts i t → here ≡ stm_emits emits h (stm_of t)
+  pub stms_go : (t : Stmt) (found here whole : Bool) (k : List (List ℕ)) → i < length ts → t ≡ get_or ts i t
+      → here ≡ stm_emits emits h (stm_of t)
       → k ≡ hidden_after h (stm_of t) → (found || stms_emit emits h (stms_of (map stm_of (drop i ts)))) ≡ whole
       → (found || here || stms_emit emits k (stms_of (map stm_of (drop (i + 1) ts)))) ≡ whole
   stms_go t found here whole k within is here_is k_is so_far =
       (λ j. found || here_is j || stms_emit emits (k_is j) (stms_of (map stm_of (drop (i + 1) ts))))
-      ∙ or_assoc found (stm_emits emits h (stm_of t)) (stms_emit emits (hidden_after h (stm_of t)) (stms_of (map stm_of (drop (i + 1) ts))))
+      ∙ or_assoc found (stm_emits emits h (stm_of t))
+      (stms_emit emits (hidden_after h (stm_of t)) (stms_of (map stm_of (drop (i + 1) ts))))
       ∙ ap (λ b. found || b) (sym (stms_turn t within is)) ∙ so_far
 
-  pub stms_end : (found whole : Bool) → length ts ≤ i → (found || stms_emit emits h (stms_of (map stm_of (drop i ts)))) ≡ whole → found ≡ whole
+  pub stms_end : (found whole : Bool) → length ts ≤ i
+      → (found || stms_emit emits h (stms_of (map stm_of (drop i ts)))) ≡ whole → found ≡ whole
   unfolding stms_emit
   stms_end found whole over so_far =
-      sym (or_false found) ∙ ap (λ (l : List Stm). found || stms_emit emits h (stms_of l)) (sym (rest_none stm_of ts i over)) ∙ so_far
+      sym (or_false found)
+      ∙ ap (λ (l : List Stm). found || stms_emit emits h (stms_of l)) (sym (rest_none stm_of ts i over)) ∙ so_far
 
 -- more is hidden after a statement
-pub front_grows : (old h k more : List (List ℕ)) (s : Stm) → h ≡ old ++ more → k ≡ hidden_after h s → (rest : List (List ℕ)) × (k ≡ old ++ rest)
+pub front_grows : (old h k more : List (List ℕ)) (s : Stm) → h ≡ old ++ more → k ≡ hidden_after h s
+    → (rest : List (List ℕ)) × (k ≡ old ++ rest)
 front_grows old h k more s is following =
     let next = after_front h s in
     (more ++ next.0, following ∙ next.1 ∙ ap (λ (l : List (List ℕ)). l ++ next.0) is ∙ append_assoc old more next.0)

@@ -1,3 +1,3 @@
--- what the public contracts rest on
 -- what the functions inside the crate promise each other
+pub mod Tabling
 pub mod Hidden

@@ -35,7 +35,8 @@ is_one_node _ = false
 
 -- one argument, and one beside others
 alone : (converts : Bool) (n : Node) (p q : Place)
-    → (if converts then Ok n else wrong_type q) ≡ ((unless converts (wrong_type q) >>= λ _. unless true (wrong_count p)) >>= λ _. Ok n)
+    → (if converts then Ok n else wrong_type q)
+    ≡ ((unless converts (wrong_type q) >>= λ _. unless true (wrong_count p)) >>= λ _. Ok n)
 alone true n p q = refl
 alone false n p q = refl
 
@@ -90,14 +91,16 @@ fields_are [] = refl
 fields_are (f ∷ fs) = omega (arith, fields_are fs)
 
 -- a predeclared function takes one argument or two
-pub row_of_none : (b : Builtin) (ns : List CoreExpr) → length ns < 1 → builtin_row b (types_of (nodes_of (map node_of ns))) ≡ None
+pub row_of_none : (b : Builtin) (ns : List CoreExpr) → length ns < 1
+    → builtin_row b (types_of (nodes_of (map node_of ns))) ≡ None
 row_of_none b (n ∷ ns) h = absurd (omega (arith, h))
 row_of_none Len [] h = refl
 row_of_none Keys [] h = refl
 row_of_none HasKey [] h = refl
 row_of_none StrFind [] h = refl
 
-pub row_of_many : (b : Builtin) (ns : List CoreExpr) → 2 < length ns → builtin_row b (types_of (nodes_of (map node_of ns))) ≡ None
+pub row_of_many : (b : Builtin) (ns : List CoreExpr) → 2 < length ns
+    → builtin_row b (types_of (nodes_of (map node_of ns))) ≡ None
 row_of_many b [] h = absurd (omega (arith, h))
 row_of_many b (n ∷ []) h = absurd (omega (arith, h))
 row_of_many b (n ∷ m ∷ []) h = absurd (omega (arith, h))

@@ -27,7 +27,8 @@ floor_of _ = 0
 abbrev pub seen_from : Sight → List Block → List Block
 seen_from sight [] = []
 seen_from sight (block ∷ blocks) =
-    (if nat_le (floor_of sight) (length blocks) then block else filter (λ (n : Named). is_seen_by_functions n.meaning) block) ∷ seen_from sight blocks
+    (if nat_le (floor_of sight) (length blocks) then block
+    else filter (λ (n : Named). is_seen_by_functions n.meaning) block) ∷ seen_from sight blocks
 
 -- whether a routine that looks so may stand inside this many blocks; the value of a static is no routine
 abbrev pub sits_in : Sight → ℕ → Bool
@@ -94,10 +95,20 @@ module _ (types : List Shape) (meanings : List Kept) where
 -- what is known, by what is kept
 abbrev pub knowledge_of : List Block → Sight → List Shape → List Shape → Knowledge
 knowledge_of [] sight types locals =
-    record { innermost = []; outside = record { seen = []; all = []; own = 0; sight = sight; types = types }; locals = locals }
+    record {
+      innermost = [];
+      outside = record { seen = []; all = []; own = 0; sight = sight; types = types };
+      locals = locals;
+    }
 knowledge_of (block ∷ blocks) sight types locals = record {
   innermost = block;
-  outside = record { seen = seen_from sight blocks; all = blocks; own = length blocks - floor_of sight; sight = sight; types = types };
+  outside = record {
+    seen = seen_from sight blocks;
+    all = blocks;
+    own = length blocks - floor_of sight;
+    sight = sight;
+    types = types;
+  };
   locals = locals;
 }
 
@@ -121,7 +132,8 @@ with_type t k = record k { outside = record k.outside { types = k.outside.types 
 
 -- the place of a meaning in the list is that of a meaning of this kind
 abbrev pub IsPlaced : List Kept → Place → Type 0
-IsPlaced meanings what = option_map (placed (unwrap_or (place_of what) 0)) (kept_at meanings (place_of what)) ≡ Some what
+IsPlaced meanings what =
+    option_map (placed (unwrap_or (place_of what) 0)) (kept_at meanings (place_of what)) ≡ Some what
 
 abbrev pub ArePlacedIn : List Kept → scopes.Block → Type 0
 ArePlacedIn meanings [] = Unit {0}
@@ -141,7 +153,8 @@ AreTyped count [] = Unit {0}
 AreTyped count (m ∷ meanings) = IsTyped count m × AreTyped count meanings
 
 -- what is always true of what is kept
-pub record IsKept (types : List Shape) (meanings : List Kept) (blocks : List scopes.Block) (sight : Sight) : Type 0 where
+pub record IsKept (types : List Shape) (meanings : List Kept) (blocks : List scopes.Block)
+    (sight : Sight) : Type 0 where
   pub placed : ArePlaced meanings blocks
   pub typed : AreTyped (length types) meanings
   pub some : 0 < length blocks

@@ -59,8 +59,8 @@ pub record Outside : Type 0 where
   pub sight : Sight
   pub types : List Shape
 
--- what is known in front of a statement: what the innermost block declares, what is outside it, and the types of the routine's
--- variables by number
+-- what is known in front of a statement: what the innermost block declares, what is outside it, and the types of the
+-- routine's variables by number
 pub record Knowledge : Type 0 where
   pub innermost : Block
   pub outside : Outside
@@ -82,7 +82,11 @@ scene_of k = record { blocks = blocks_of k; locals = k.locals }
 
 -- what is outside a block that is opened inside the innermost one
 abbrev pub outside_of : Knowledge → Outside
-outside_of k = record k.outside { seen = k.innermost ∷ k.outside.seen; all = k.innermost ∷ k.outside.all; own = suc k.outside.own }
+outside_of k = record k.outside {
+  seen = k.innermost ∷ k.outside.seen;
+  all = k.innermost ∷ k.outside.all;
+  own = suc k.outside.own;
+}
 
 -- what is known where a function's block is opened inside the innermost one
 abbrev pub in_function : Knowledge → Knowledge

@@ -50,9 +50,10 @@ meaning_again input = refl
 
 abbrev meaning_code : Coded Meaning
 meaning_code =
-    code_by Kinds (coded⊎ (coded⊎ (coded⊎ (coded× coded_ℕ shape_code) (coded× coded_ℕ shape_code)) (coded× coded_ℕ shape_code))
-    (coded⊎ (coded⊎ (coded× coded_ℕ declarations_code) (coded× coded_ℕ signature_code)) (coded⊎ shape_code builtin_code)))
-    kinds_of meaning_of meaning_again
+    code_by Kinds
+    (coded⊎ (coded⊎ (coded⊎ (coded× coded_ℕ shape_code) (coded× coded_ℕ shape_code)) (coded× coded_ℕ shape_code))
+    (coded⊎ (coded⊎ (coded× coded_ℕ declarations_code) (coded× coded_ℕ signature_code))
+    (coded⊎ shape_code builtin_code))) kinds_of meaning_of meaning_again
 
 abbrev block_code : Coded Block
 block_code =

@@ -28,8 +28,8 @@ pub err_holds : {A : Type 0} (P : A → Type 0) (r : Refusal) → Holds (bad r) 
 err_holds P r = record { holds = λ y e. absurd cc }
 
 -- what holds of the second judgement, for each value of the first, holds of both
-pub bind_holds : {A B : Type 0} {m : Judged A} {P : A → Type 0} {f : A → Judged B} {Q : B → Type 0} → Holds m P → ((x : A) → P x → Holds (f x) Q)
-    → Holds (m >>= f) Q
+pub bind_holds : {A B : Type 0} {m : Judged A} {P : A → Type 0} {f : A → Judged B} {Q : B → Type 0} → Holds m P
+    → ((x : A) → P x → Holds (f x) Q) → Holds (m >>= f) Q
 bind_holds {m = Ok x} h k = k x (h.holds x refl)
 bind_holds {m = Err r} h k = err_holds _ r
 
@@ -51,7 +51,8 @@ unless_holds true r = ok_holds _ _ refl
 unless_holds false r = err_holds _ r
 
 -- what is judged one way or another, by a test
-pub if_holds : {A : Type 0} {m n : Judged A} {P : A → Type 0} (b : Bool) → (b ≡ true → Holds m P) → (b ≡ false → Holds n P) → Holds (if b then m else n) P
+pub if_holds : {A : Type 0} {m n : Judged A} {P : A → Type 0} (b : Bool) → (b ≡ true → Holds m P)
+    → (b ≡ false → Holds n P) → Holds (if b then m else n) P
 if_holds true h k = h refl
 if_holds false h k = k refl
 

@@ -12,7 +12,8 @@ use Rattle.sz_core.specs.Nodes.{Node, node, convert, Nodes, with_node, Pairings,
 pub use Rattle.sz_core.specs.Typing.{field_types}
 use Rattle.sz_check_rules.specs.Refusals.{Judged, ◌>>=◌, unless, wrong_type, wrong_count}
 
--- the types that a place asks of the expressions there, one by one: none, the same of each, or these in turn and then none
+-- the types that a place asks of the expressions there, one by one: none, the same of each, or these in turn and then
+-- none
 pub data Asks : Type 0 where
   nothing : Asks
   each : Shape → Asks
@@ -37,7 +38,8 @@ abbrev pub agrees : Option Shape → Exp → Node → Judged Unit
 agrees None e n = Ok tt
 agrees (Some t) e n = unless (alike (type_of n) t) (wrong_type (place_of e))
 
--- each expression has the type that is asked of it, as far as types are asked; else the first that hasn't is the wrong one
+-- each expression has the type that is asked of it, as far as types are asked; else the first that hasn't is the
+-- wrong one
 unfoldable pub agree : Asks → Exps → Nodes → Judged Unit
 agree asks (more e es) (with_node n ns) = do
   _ ← agrees (asked_first asks) e n
@@ -97,8 +99,8 @@ abbrev pub is_map : Shape → Bool
 is_map (Shape.mapping k v) = true
 is_map _ = false
 
--- the arguments of a predeclared function have types that it takes, as far as they are there; else the first that hasn't
--- is the wrong one
+-- the arguments of a predeclared function have types that it takes, as far as they are there; else the first that
+-- hasn't is the wrong one
 abbrev pub arguments_fit : Builtin → Exps → Nodes → Judged Unit
 arguments_fit Len (more e es) (with_node n ns) = taken (len_row (type_of n)) e
 arguments_fit Keys (more e es) (with_node n ns) = taken (keys_row (type_of n)) e

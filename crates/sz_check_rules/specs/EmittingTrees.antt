@@ -1,4 +1,5 @@
--- Whether a statement emits, by its tree: it does, or it calls by a name what emits. A name that is hidden by a variable calls nothing.
+-- Whether a statement emits, by its tree: it does, or it calls by a name what emits. A name that is hidden by a
+-- variable calls nothing.
 use Rattle.std.specs.Prelude.{ℕ, List, [], ◌∷◌, ◌++◌, map, Bool, true, false, ◌&&◌, ◌||◌, not, if◌then◌else◌, Option, Some, None}
 use Rattle.sz_tree.specs.declared.stmt.Quantity.{Quantity}
 use Rattle.sz_tree.specs.declared.stmt.Quantity.TheVariants as quantities
@@ -34,7 +35,8 @@ texts_of = map (λ (n : Ident). n.text)
 -- the names that quantifiers hide: all in the condition, and inside those that the statement inside sees
 abbrev pub quantified_names : (inside : Bool) → List QuantifierForm → List (List ℕ)
 quantified_names inside [] = []
-quantified_names inside (q ∷ qs) = (if not inside || is_seen_inside q.quantity then texts_of q.names else []) ++ quantified_names inside qs
+quantified_names inside (q ∷ qs) =
+    (if not inside || is_seen_inside q.quantity then texts_of q.names else []) ++ quantified_names inside qs
 
 -- the names that are hidden after the first part of a `for`
 abbrev pub hidden_after_first : List (List ℕ) → Option FirstForm → List (List ℕ)
@@ -123,10 +125,12 @@ module _ (emits : List ℕ → Bool) where
     stm_emits h (if_else p c s t) = exp_emits h c || stm_emits h s || stm_emits h t
     stm_emits h (while p c s) = exp_emits h c || stm_emits h s
     stm_emits h (do_while p s c) = stm_emits h s || exp_emits h c
-    stm_emits h (for_loop p f c between s) = first_emits h f || turns_emit (hidden_after_first h f) c between (stm_emits (hidden_after_first h f) s)
+    stm_emits h (for_loop p f c between s) =
+        first_emits h f || turns_emit (hidden_after_first h f) c between (stm_emits (hidden_after_first h f) s)
     stm_emits h (return p e) = part_emits h e
     stm_emits h (emit p n es e w) = true
-    stm_emits h (when p qs c s) = exp_emits (h ++ quantified_names false qs) c || stm_emits (h ++ quantified_names true qs) s
+    stm_emits h (when p qs c s) =
+        exp_emits (h ++ quantified_names false qs) c || stm_emits (h ++ quantified_names true qs) s
     stm_emits h _ = false
 
     pub stms_emit : List (List ℕ) → Stms → Bool
@@ -135,7 +139,8 @@ module _ (emits : List ℕ → Bool) where
 
   -- a `for`, and a `when`
   abbrev pub for_emits : List (List ℕ) → Option FirstForm → Option Exp → Option SimpleForm → Stm → Bool
-  for_emits h f c between s = first_emits h f || turns_emit (hidden_after_first h f) c between (stm_emits (hidden_after_first h f) s)
+  for_emits h f c between s =
+      first_emits h f || turns_emit (hidden_after_first h f) c between (stm_emits (hidden_after_first h f) s)
 
   abbrev pub when_emits : List (List ℕ) → List QuantifierForm → Exp → Stm → Bool
   when_emits h qs c s = exp_emits (h ++ quantified_names false qs) c || stm_emits (h ++ quantified_names true qs) s

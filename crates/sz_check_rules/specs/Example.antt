@@ -1,4 +1,5 @@
--- The tree of a small program as an example: t: table sum of int; f: function(n: int): int { return n; } emit t <- f(1);
+-- The tree of a small program as an example: t: table sum of int; f: function(n: int): int { return n; } emit t <-
+-- f(1);
 use Rattle.std.specs.Prelude.{ℕ, List, [], Some, None, pos, codes}
 use Rattle.sz_tree.specs.declared.types.BasicType.TheVariants as basics
 use Rattle.sz_tree.specs.Names.{Ident}
@@ -24,12 +25,13 @@ table_tree = table (name_at 1 (codes "t")) (record {
 -- f: function(n: int): int { return n; }
 abbrev pub function_tree : Stm
 function_tree =
-    function (name_at 22 (codes "f")) (param (name_at 34 (codes "n")) (basic (column 37) basics.Int) no_params) (basic (column 43) basics.Int)
-    (stm (return (column 49) (Some (named (name_at 56 (codes "n"))))) no_stms)
+    function (name_at 22 (codes "f")) (param (name_at 34 (codes "n")) (basic (column 37) basics.Int) no_params)
+    (basic (column 43) basics.Int) (stm (return (column 49) (Some (named (name_at 56 (codes "n"))))) no_stms)
 
 -- emit t <- f(1);
 abbrev pub emit_tree : Stm
-emit_tree = emit (column 61) (name_at 66 (codes "t")) end (call (name_at 71 (codes "f")) (more (literal (column 73) (number (pos 1))) end)) None
+emit_tree = emit (column 61) (name_at 66 (codes "t")) end
+    (call (name_at 71 (codes "f")) (more (literal (column 73) (number (pos 1))) end)) None
 
 -- the whole tree
 abbrev pub small_tree : Stms

@@ -15,7 +15,8 @@ use Rattle.sz_check_rules.specs.Names.{Meaning}
 use Rattle.sz_check_rules.specs.Names as names
 use Rattle.sz_check_rules.specs.Agreeing.{Asks, nothing, in_turn, agree, counted, arguments_fit}
 
--- what can be called: a declared function by its number, a predeclared one, or a type by whose name a value is converted
+-- what can be called: a declared function by its number, a predeclared one, or a type by whose name a value is
+-- converted
 pub data Callee : Type 0 where
   declared : ℕ → Signature → Callee
   predeclared : Builtin → Callee

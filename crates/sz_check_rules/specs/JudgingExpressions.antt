@@ -1,5 +1,5 @@
--- The checked expression that an expression's tree is, or its first refusal: the parts in the order of the text, and then
--- the rules of the expression itself.
+-- The checked expression that an expression's tree is, or its first refusal: the parts in the order of the text, and
+-- then the rules of the expression itself.
 use Rattle.std.specs.Prelude.{pos, List, Bool, Option, None, Ok}
 use Rattle.sz_types.specs.Data.{Shape}
 use Rattle.sz_types.specs.declared.place.Place.{Place}

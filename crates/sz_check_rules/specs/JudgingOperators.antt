@@ -108,7 +108,8 @@ takes_left binary.Greater t = is_ordered t
 takes_left binary.GreaterEqual t = is_ordered t
 takes_left _ t = alike t Shape.int
 
--- an operator that takes both operands: where no row has the type of the left one it is the wrong one, else the right one is
+-- an operator that takes both operands: where no row has the type of the left one it is the wrong one, else the right
+-- one is
 abbrev pub made_operator : Place → BinOp → Exp → Exp → Node → Node → Judged Node
 made_operator p o l r n m = do
   _ ← unless (takes_left o (type_of n)) (wrong_type (place_of l))

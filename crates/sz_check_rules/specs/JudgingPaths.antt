@@ -16,8 +16,8 @@ use Rattle.sz_check_rules.specs.JudgingParts.{whole, field_in}
 use Rattle.sz_check_rules.specs.Scene.{Scene}
 use Rattle.sz_check_rules.specs.Scenes.{judge}
 
--- where a path has come to: the number of its variable, the steps so far, the type of what is there, and whether it can be
--- assigned to
+-- where a path has come to: the number of its variable, the steps so far, the type of what is there, and whether it
+-- can be assigned to
 pub record Target : Type 0 where
   pub local : ℕ
   pub steps : List Step

@@ -58,8 +58,8 @@ has_limit Sum = false
 has_limit Collection = false
 has_limit _ = true
 
--- the limit of a table by the number after its kind: 0 where the kind has none, and none where the number is missing, is
--- one too many, or can be no limit
+-- the limit of a table by the number after its kind: 0 where the kind has none, and none where the number is missing,
+-- is one too many, or can be no limit
 abbrev pub limit_of : TableKind → Option ℤ → Option ℕ
 limit_of kind None = if has_limit kind then None else Some 0
 limit_of kind (Some (pos n)) = if has_limit kind then Some n else None
@@ -84,10 +84,12 @@ abbrev pub allowed : Ident → Declaration → Judged Declaration
 allowed kind d = if is_allowed d then Ok d else bad_table kind.place
 
 -- a declaration by its parts; the limit is wrong where there is none
-abbrev pub declaration_of : Ident → Ident → TableKind → Option ℕ → List Shape → Shape → Option Shape → Judged Declaration
+abbrev pub declaration_of : Ident → Ident → TableKind → Option ℕ → List Shape → Shape → Option Shape
+    → Judged Declaration
 declaration_of n word kind None indexes element weight = bad_table word.place
 declaration_of n word kind (Some limit) indexes element weight =
-    allowed word (record { name = n.text; kind = kind; limit = limit; indexes = indexes; element = element; weight = weight })
+    allowed word
+    (record { name = n.text; kind = kind; limit = limit; indexes = indexes; element = element; weight = weight })
 
 -- the most tables of a program
 abbrev pub most_tables : ℕ
@@ -143,15 +145,20 @@ innermost_on (block ∷ blocks) outer = block ∷ outer
 abbrev pub in_function : Shape → Around
 in_function t = record { result = Some t; loop = false }
 
--- `name: function(parameters): type {statements}`: the parameters and the type of the result, then the function's own name,
--- and then its statements, which see it. Whether it emits goes by its text; a call of itself adds nothing.
+-- `name: function(parameters): type {statements}`: the parameters and the type of the result, then the function's own
+-- name, and then its statements, which see it. Whether it emits goes by its text; a call of itself adds nothing.
 abbrev pub judge_function : TopScene → Ident → Params → Typ → Stms → Judged Found
 judge_function k n ps t ss = do
   front ← judge_parameters (record { blocks = [] ∷ only is_seen_by_functions (blocks_of k); locals = [] }) ps
   u ← judge_type front.blocks t
-  let signature : Signature = record { parameters = front.locals; result = u; emits = stms_emit (emits_by front.blocks) (n.text ∷ []) ss }
+  let signature : Signature = record {
+    parameters = front.locals;
+    result = u;
+    emits = stms_emit (emits_by front.blocks) (n.text ∷ []) ss;
+  }
   own ← names.declare n (names.function (length k.functions) signature) (blocks_of k)
-  body ← judge_stms (in_function u) (record { blocks = innermost_on front.blocks (only is_seen_by_functions own); locals = front.locals }) ss
+  body ← judge_stms (in_function u)
+      (record { blocks = innermost_on front.blocks (only is_seen_by_functions own); locals = front.locals }) ss
   Ok (record {
     known = record (with_blocks k own) { functions = k.functions ++ signature ∷ [] };
     items = items.function (record { signature = signature; locals = body.scene.locals; body = body.stms }) ∷ [];

@@ -139,7 +139,8 @@ judge_emitted s d es e w = do
   weight ← judge_if_some s d.weight w
   Ok (record { indexes = indexes; value = value; weight = weight })
 
--- the parts of an emit are as the table's declaration asks; the places are that of the emit and that of the table's name
+-- the parts of an emit are as the table's declaration asks; the places are that of the emit and that of the table's
+-- name
 abbrev pub emitted_fits : Declaration → Place → Place → Exps → Exp → Option Exp → Emitted → Judged Unit
 emitted_fits d p q es e w x = do
   _ ← agree (in_turn d.indexes) es x.indexes

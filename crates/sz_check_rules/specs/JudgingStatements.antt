@@ -53,7 +53,8 @@ turns_of s p c between judging = do
   done body.scene (for_of p c n step body.stm)
 
 -- a `for`: its first part, and then its turns, in a block
-abbrev pub judge_for : Scene → Place → Option FirstForm → Option Exp → Option SimpleForm → (Scene → Judged Later) → Judged Later
+abbrev pub judge_for : Scene → Place → Option FirstForm → Option Exp → Option SimpleForm
+    → (Scene → Judged Later) → Judged Later
 judge_for s p f c between judging = do
   first ← judge_first (opened s) f
   turns ← turns_of first.scene p c between judging
@@ -97,7 +98,8 @@ unfoldable mutual
     body ← in_block s (judge_stm (in_loop a) (opened s) t)
     n ← judge body.scene None c
     done body.scene (do_while_of p c body.stm n)
-  judge_stm a s (trees.for_loop p f c between t) = judge_for s p f c between (λ start. in_block start (judge_stm (in_loop a) (opened start) t))
+  judge_stm a s (trees.for_loop p f c between t) =
+      judge_for s p f c between (λ start. in_block start (judge_stm (in_loop a) (opened start) t))
   judge_stm a s (trees.break p) = done s (if a.loop then Ok core.break else misplaced p)
   judge_stm a s (trees.continue p) = done s (if a.loop then Ok core.continue else misplaced p)
   judge_stm a s (return p e) = done s (judge_return s p a.result e)

@@ -37,7 +37,8 @@ abbrev pub encoding_of : Option Ident → Option Encoding
 encoding_of None = Some Plain
 encoding_of (Some word) =
     if bytes_eq word.text (codes "zigzag") then Some Zigzag
-    else (if bytes_eq word.text (codes "fixed32") then Some Fixed32 else (if bytes_eq word.text (codes "fixed64") then Some Fixed64 else None))
+    else (if bytes_eq word.text (codes "fixed32") then Some Fixed32
+    else (if bytes_eq word.text (codes "fixed64") then Some Fixed64 else None))
 
 -- the number and the encoding of a field of a message
 pub record Coding : Type 0 where

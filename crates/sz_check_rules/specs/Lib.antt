@@ -21,3 +21,6 @@ pub mod JudgingStatements
 pub mod JudgingPrograms
 -- a small program
 pub mod Example
+-- programs with types round them, and the statements that declare such types
+pub mod JudgingWithTypes
+pub mod TypeStatements

@@ -79,7 +79,8 @@ bind v blocks = names.declare v.name (names.quantified v.local v.type) blocks
 -- the same of those variables that the statement inside sees
 unfoldable pub bind_inside : List Variable → List Block → Judged (List Block)
 bind_inside [] blocks = Ok blocks
-bind_inside (v ∷ vs) blocks = if is_seen_inside v.quantity then (bind v blocks >>= bind_inside vs) else bind_inside vs blocks
+bind_inside (v ∷ vs) blocks =
+    if is_seen_inside v.quantity then (bind v blocks >>= bind_inside vs) else bind_inside vs blocks
 
 -- what the statement inside sees, with the types of all variables by number
 abbrev pub judge_bound : Scene → List Variable → Judged Scene
@@ -106,9 +107,11 @@ all_bounded (v ∷ vs) (Some b ∷ bs) = do
   Ok (b ∷ rest)
 all_bounded vs bs = Ok []
 
--- whether a variable speaks of all candidates, after one that does or doesn't; one that doesn't may not stand after one that does
+-- whether a variable speaks of all candidates, after one that does or doesn't; one that doesn't may not stand after
+-- one that does
 abbrev pub may_follow : Variable → Bool → Judged Bool
-may_follow v after = if is_seen_inside v.quantity then (if after then all_must_be_last v.name.place else Ok false) else Ok true
+may_follow v after =
+    if is_seen_inside v.quantity then (if after then all_must_be_last v.name.place else Ok false) else Ok true
 
 -- no variable of another kind stands after one that speaks of all candidates; whether the last one does
 unfoldable pub all_last : List Variable → Bool → Judged Bool
@@ -131,13 +134,17 @@ pub record Based : Type 0 where
   pub variable : core.Quantified
   pub blocks : List Block
 
--- what a variable's candidates are made of, where the variables before it are seen. This was judged before, as a part of the condition.
+-- what a variable's candidates are made of, where the variables before it are seen. This was judged before, as a part
+-- of the condition.
 abbrev pub judge_base : List Block → Variable → BoundForm → Judged Based
 judge_base blocks v b = do
   n ← judge_exp blocks false None b.base
   _ ← unless (are_of (candidate_type b.slice (type_of n)) v.type) (wrong_type v.name.place)
   next ← bind v blocks
-  Ok (record { variable = record { quantity = checked v.quantity; local = v.local; base = n; slice = b.slice }; blocks = next })
+  Ok (record {
+    variable = record { quantity = checked v.quantity; local = v.local; base = n; slice = b.slice };
+    blocks = next;
+  })
 
 -- the same of all variables, in order
 unfoldable pub judge_bases : List Block → List Variable → List BoundForm → Judged (List core.Quantified)
@@ -148,7 +155,8 @@ judge_bases blocks (v ∷ vs) (b ∷ bs) = do
   rest ← judge_bases first.blocks vs bs
   Ok (first.variable ∷ rest)
 
--- the variables as they are in the checked tree, by their rules: each has a bound, and those that speak of all candidates come last
+-- the variables as they are in the checked tree, by their rules: each has a bound, and those that speak of all
+-- candidates come last
 abbrev pub quantify : Scene → List Variable → Exp → Judged (List core.Quantified)
 quantify s vs c = do
   bs ← all_bounded vs (bounds_of (names_of vs) c)

@@ -1,5 +1,5 @@
 //! Programs with the types of a `.proto` file round them.
-ghost use Rattle.sz_protofile_laws.specs.Sound.{AreSound};
+ghost use Rattle.sz_protofile_types.specs.Sound.{AreSound};
 
 use crate::judged::{program_of, told};
 use std::alloc::{AllocError, Global};
@@ -7,8 +7,7 @@ use std::test::Fail;
 use sz_check::check_with;
 use sz_lex::lex;
 use sz_parse::parse;
-use sz_protofile_laws::file_types_are_sound;
-use sz_protofile_types::{NamedTypes, read_proto};
+use sz_protofile_types::{NamedTypes, file_types_are_sound, read_proto};
 use sz_tree::Tree;
 
 // In each line a file stands before the bar, behind it a program before `=>`, where `$` is the end of a line, and after it what `check_with`

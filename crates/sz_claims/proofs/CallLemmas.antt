@@ -14,8 +14,10 @@ use Rattle.sz_book_rules.specs.Machine.{LedgerState, opening, after, reply_of, F
 use Rattle.sz_book_rules.specs.History.{entry, state_after, IsLegal, IsTrueReport}
 use Rattle.sz_claims.specs.declared.view.Account.{Account}
 use Rattle.sz_claims.specs.declared.view.View.{View}
-use Rattle.sz_claims.specs.Rule.{Slot, Shows, IsBounded, IsOut, IsTrueOf, IsAt, HaveBorrowers, Kept, calling, looking, Follows, Called, Looked}
+use Rattle.sz_claims.specs.Rule.{slots_out, Slot, view_of, CallsAt, Shows, IsBounded, IsOut, IsTrueOf, IsAt, HaveBorrowers, Kept, calling, looking, Follows, Looked}
+use Rattle.sz_claims.specs.declared.steps.Change.{Change}
 use Rattle.sz_claims.specs.Moves.{MayCall}
+use Rattle.sz_claims.specs.Changes.{changed}
 use Rattle.sz_book.specs.Books.{IsPlain}
 use Rattle.sz_book_rules.proofs.HistoryLemmas.{state_after-snoc, legal-snoc, reports-snoc, calls_own, calls_other, starts_self, starts_empty, starts_more}
 use Rattle.sz_claims.proofs.SeatLemmas.{was, set_at, numbered_set, borrowed_set}
@@ -175,11 +177,11 @@ borrowed_by p lanes vs id v x at borrowed i low out =
     (λ (ne : h.0 ≢ id). inr (h.0, h.1, h.2, ne, h.3))
 
 -- a call that leaves the lanes alone
-pub calls : (died : ℕ → ℕ → Type 0) (is_bad : ℕ → Type 0) (p : PlanData) (lanes slots id : ℕ) (me : Me Slot View) (i : ℕ) (f : ℕ
-    → ℕ) (event : Event) (reply : ℕ → Reply) → MayCall died is_bad p lanes me.0 i f event reply
-    → Allows (Kept died is_bad p lanes) slots id me i f (λ n after. Called me.0 event [] (reply n) me.0.lane me.0.lent after.0 × (after.1 ≡ me.1))
+calls : (died : ℕ → ℕ → Type 0) (is_bad : ℕ → Type 0) (p : PlanData) (lanes slots id : ℕ) (me : Me Slot View) (i : ℕ) (f : ℕ → ℕ) (event : Event)
+    (reply : ℕ → Reply) → MayCall died is_bad p lanes (view_of me) i f event reply
+    → Allows (Kept died is_bad p lanes) slots id me i f (λ n after. CallsAt me event (reply n) after)
 calls died is_bad p lanes slots id me i f event reply may s h same at small =
-    let v : View = me.0 in
+    let v : View = view_of me in
     let here : IsAt s.views id v = (at, may.live) in
     let t = h.knows id v here in
     let x : LedgerState = state_after p (opening p lanes) h.log in
@@ -208,6 +210,14 @@ calls died is_bad p lanes slots id me i f event reply may s h same at small =
       ((h.log, refl, follows died is_bad p lanes s h id v e v.lane v.lent here refl legal), refl),
     )
 
+-- the same where it is known which change the step makes
+pub step_calls : (died : ℕ → ℕ → Type 0) (is_bad : ℕ → Type 0) (p : PlanData) (lanes slots id : ℕ) (me : Me Slot View) (i : ℕ) (change one : Change)
+    (event : Event) (reply : ℕ → Reply) → change ≡ one → MayCall died is_bad p lanes (view_of me) i (changed change) event reply
+    → Allows (Kept died is_bad p lanes) slots id me i (changed one) (λ n after. CallsAt me event (reply n) after)
+step_calls died is_bad p lanes slots id me i change one event reply is may =
+    calls died is_bad p lanes slots id me i (changed one) event reply
+    (subst (λ k. MayCall died is_bad p lanes (view_of me) i (changed k) event reply) is may)
+
 seen_all : (p : PlanData) (lanes : ℕ) (log : List Entry) (x : LedgerState) (made : ℕ) (joined : List Account) (views : List View) (id : ℕ) (v : View)
     → IsAt views id v → ((j : ℕ) (u : View) → IsAt views j u → IsTrueOf p lanes log x made joined u)
     → (j : ℕ) (u : View) → IsAt (set views id (looking v log)) j u → IsTrueOf p lanes log x made joined u
@@ -230,10 +240,10 @@ seen_all p lanes log x made joined views id v at knows j u there =
     (λ (away : (j ≢ id) × IsAt views j u). knows j u away.1)
     (was views id (looking v log) j u there)
 
-pub looks : (died : ℕ → ℕ → Type 0) (is_bad : ℕ → Type 0) (p : PlanData) (lanes slots id : ℕ) (me : Me Slot View) (i : ℕ) → 0 < me.0.weight
-    → Allows (Kept died is_bad p lanes) slots id me i (λ n. n) (λ n after. Looked me.0 after.0 × (after.1 ≡ me.1))
+pub looks : (died : ℕ → ℕ → Type 0) (is_bad : ℕ → Type 0) (p : PlanData) (lanes slots id : ℕ) (me : Me Slot View) (i : ℕ) → 0 < (view_of me).weight
+    → Allows (Kept died is_bad p lanes) slots id me i (λ n. n) (λ n after. Looked (view_of me) after.0 × (after.1 ≡ slots_out me))
 looks died is_bad p lanes slots id me i live s h same at small =
-    let v : View = me.0 in
+    let v : View = view_of me in
     let here : IsAt s.views id v = (at, live) in
     let t = h.knows id v here in
     let x : LedgerState = state_after p (opening p lanes) h.log in

@@ -17,7 +17,7 @@ use Rattle.sz_book_rules.specs.declared.event.Entry.{Entry}
 use Rattle.sz_book_rules.specs.Machine.{LedgerState, opening, after, reply_of, list_of, placed}
 use Rattle.sz_book_rules.specs.History.{entry, state_after, IsLegal}
 use Rattle.sz_claims.specs.declared.view.View.{View}
-use Rattle.sz_claims.specs.Rule.{Slot, ShowsLanes, Shows, lane_data, turn_at, number_at, deaths_at, settled_at, bad_at, IsAt, Kept, calling, Called, list_seen}
+use Rattle.sz_claims.specs.Rule.{view_of, slots_out, Slot, ShowsLanes, Shows, lane_data, turn_at, number_at, deaths_at, settled_at, bad_at, IsAt, Kept, calling, Called, list_seen}
 use Rattle.sz_claims.specs.Rule.{Lent, IsAsked, Given}
 use Rattle.sz_claims.specs.Known.{AreInHand}
 use Rattle.sz_book_rules.proofs.HistoryLemmas.{state_after-snoc, legal-snoc}
@@ -100,10 +100,10 @@ back_slots p lanes i words homes outs lists list low count h =
 
 -- the step by which a pass asks for a lane
 pub lends : (died : ℕ → ℕ → Type 0) (is_bad : ℕ → Type 0) (p : PlanData) (lanes slots id : ℕ) (me : Me Slot View) (i : ℕ) → i < lanes
-    → 0 < me.0.weight → me.0.lane ≡ 0
+    → 0 < (view_of me).weight → (view_of me).lane ≡ 0
     → Allows (Kept died is_bad p lanes) slots id me (turn_at p i) (λ m. either (m == 0) 1 m) (Lent i me)
 lends died is_bad p lanes slots id me i low live idle s h same at fits =
-    let v : View = me.0 in
+    let v : View = view_of me in
     let here : IsAt s.views id v = (at, live) in
     let t = h.knows id v here in
     let x : LedgerState = state_after p (opening p lanes) h.log in
@@ -112,8 +112,8 @@ lends died is_bad p lanes slots id me i low live idle s h same at fits =
     let c = h.shows.slots.counts in
     let turn : m ≡ slice_index x.outs i = h.shows.slots.turns i low in
     let y : LedgerState = after p x v.number (LaneOut i) [] in
-    let F : ℕ → Type 0 = λ n. (w : View) × (a : Act Slot) × Valid s.homes me.1 a × Kept died is_bad p lanes (stepped s j n id me.1 w a)
-    × Lent i me m (w, carried_after me.1 a) in
+    let F : ℕ → Type 0 = λ n. (w : View) × (a : Act Slot) × Valid s.homes (slots_out me) a × Kept died is_bad p lanes (stepped s j n id (slots_out me) w a)
+    × Lent i me m (w, carried_after (slots_out me) a) in
     exchanged m 0 1 F
     (λ (hit : m ≡ 0).
     let e : Entry = entry v.number (LaneOut i) [] (Lane true) in
@@ -130,14 +130,14 @@ lends died is_bad p lanes slots id me i low live idle s h same at fits =
     let Seen : PlanData → ℕ → Type 0 = λ q n. list ≡ list_of (state_after q (opening q n) (h.log ++ e ∷ [])) i in
     let seen : Seen p lanes = sym (ap (λ (q : LedgerState). list_of q i) (state_after-snoc p (opening p lanes) h.log e) ∙ lists i) in
     let seen' : list ≡ list_seen w i = subst (λ (q : PlanData). Seen q v.lanes) (sym t.plan) (subst (λ (n : ℕ). Seen p n) (sym t.lanes_are) seen) in
-    let in_slots : List (ℕ × Slot) = (i, Some (lane_data p list)) ∷ me.1 in
+    let in_slots : List (ℕ × Slot) = (i, Some (lane_data p list)) ∷ slots_out me in
     let Has : Type 0 = (list' : List ℕ) × Called v (LaneOut i) [] (Lane true) (i + 1) list' w × (list' ≡ list_seen w i)
-    × (in_slots ≡ (i, Some (lane_data v.plan list')) ∷ me.1) in
+    × (in_slots ≡ (i, Some (lane_data v.plan list')) ∷ slots_out me) in
     let has : Has = (
       list,
       (h.log, refl, follows died is_bad p lanes s h id v e (i + 1) list here refl legal),
       seen',
-      ap (λ (q : PlanData). (i, Some (lane_data q list)) ∷ me.1) (sym t.plan),
+      ap (λ (q : PlanData). (i, Some (lane_data q list)) ∷ slots_out me) (sym t.plan),
     ) in (
       w,
       takes i (Some (lane_data p list)),
@@ -166,7 +166,7 @@ lends died is_bad p lanes slots id me i low live idle s h same at fits =
                 inr
                 (borrowed_by p lanes s.views id v x here h.borrowed k low' (sym (get_or-set_other x.outs i k 1 0 ne) ∙ sym (outs k) ∙ out)));
           },
-      subst (λ (b : Bool). MatchBool b Has (Called v (LaneOut i) [] (Lane false) v.lane v.lent w × (in_slots ≡ me.1))) (sym (eq-eqb m 0 hit)) has,
+      subst (λ (b : Bool). MatchBool b Has (Called v (LaneOut i) [] (Lane false) v.lane v.lent w × (in_slots ≡ slots_out me))) (sym (eq-eqb m 0 hit)) has,
     ))
     (λ (miss : m ≢ 0).
     let e : Entry = entry v.number (LaneOut i) [] (Lane false) in
@@ -179,7 +179,7 @@ lends died is_bad p lanes slots id me i low live idle s h same at fits =
     let lists : (k : ℕ) → list_of y k ≡ list_of x k = λ k. ap (λ (q : LedgerState). list_of q k) stay in
     let words : set s.words j m ≡ s.words = set-get_or s.words j 0 in
     let Has : Type 0 = (list' : List ℕ) × Called v (LaneOut i) [] (Lane true) (i + 1) list' w × (list' ≡ list_seen w i)
-    × (me.1 ≡ (i, Some (lane_data v.plan list')) ∷ me.1) in (
+    × (slots_out me ≡ (i, Some (lane_data v.plan list')) ∷ slots_out me) in (
       w,
       keeps,
       tt,
@@ -197,7 +197,7 @@ lends died is_bad p lanes slots id me i low live idle s h same at fits =
             away = λ k u there ne n has'. ((λ e'. absurd (omega arith)), outs n, lists n);
             borrowed = λ k low' out. borrowed_by p lanes s.views id v x here h.borrowed k low' (sym (outs k) ∙ out);
           },
-      subst (λ (b : Bool). MatchBool b Has (Called v (LaneOut i) [] (Lane false) v.lane v.lent w × (me.1 ≡ me.1))) (sym (ne_eqb m 0 miss))
+      subst (λ (b : Bool). MatchBool b Has (Called v (LaneOut i) [] (Lane false) v.lane v.lent w × (slots_out me ≡ slots_out me))) (sym (ne_eqb m 0 miss))
           ((h.log, refl, follows died is_bad p lanes s h id v e v.lane v.lent here refl legal), refl),
     ))
 

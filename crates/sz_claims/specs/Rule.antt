@@ -16,6 +16,18 @@ use Rattle.sz_book_rules.specs.History.{entry, state_after, IsLegal, calls_by, S
 use Rattle.sz_claims.specs.declared.view.Account.{Account}
 use Rattle.sz_claims.specs.declared.view.View.{View}
 
+-- what lies in the slot of a lane
+abbrev pub Slot : Type 0
+Slot = Option LaneData
+
+-- what the pass at a seat knows
+abbrev pub view_of : Me Slot View → View
+view_of me = me.0
+
+-- the slots that are out with it
+abbrev pub slots_out : Me Slot View → List (ℕ × Slot)
+slots_out me = me.1
+
 -- the words of a shard: its numbers, its deaths, its winner
 abbrev pub number_at : ℕ → ℕ
 number_at s = 3 * s + 1
@@ -33,10 +45,6 @@ bad_at p = 3 * p.shards + 1
 -- the word of lane i, which is 1 where the lane is out
 abbrev pub turn_at : PlanData → ℕ → ℕ
 turn_at p i = 3 * p.shards + 2 + i
-
--- what lies in the slot of a lane
-abbrev pub Slot : Type 0
-Slot = Option LaneData
 
 -- a lane of this plan with these shards
 abbrev pub lane_data : PlanData → List ℕ → LaneData
@@ -199,6 +207,11 @@ abbrev pub Called : View → Event → List ℕ → Reply → ℕ → List ℕ �
 Called v event shards reply lane lent w =
     (log : List Entry) × (w ≡ calling v log (entry v.number event shards reply) lane lent) × Follows v log w
 
+-- the same at a seat, where no shards come with the call, and the lane and the slots stay
+abbrev pub CallsAt : Me Slot View → Event → Reply → Me Slot View → Type 0
+CallsAt v event reply w =
+    Called (view_of v) event [] reply (view_of v).lane (view_of v).lent (view_of w) × (slots_out w ≡ slots_out v)
+
 -- the list that lane i has after what is seen
 abbrev pub list_seen : View → ℕ → List ℕ
 list_seen v i = list_of (state_after v.plan (opening v.plan v.lanes) v.seen) i
@@ -206,19 +219,20 @@ list_seen v i = list_of (state_after v.plan (opening v.plan v.lanes) v.seen) i
 -- lane i was home, and the pass now has it with the list that it has after the call; or it was out
 abbrev pub Lent : ℕ → Me Slot View → ℕ → Me Slot View → Type 0
 Lent i v found w = MatchBool (found == 0)
-    ((list : List ℕ) × Called v.0 (LaneOut i) [] (Lane true) (i + 1) list w.0 × (list ≡ list_seen w.0 i)
-    × (w.1 ≡ (i, Some (lane_data v.0.plan list)) ∷ v.1))
-    (Called v.0 (LaneOut i) [] (Lane false) v.0.lane v.0.lent w.0 × (w.1 ≡ v.1))
+    ((list : List ℕ) × Called (view_of v) (LaneOut i) [] (Lane true) (i + 1) list (view_of w) × (list ≡ list_seen (view_of w) i)
+    × (slots_out w ≡ (i, Some (lane_data (view_of v).plan list)) ∷ slots_out v))
+    (CallsAt v (LaneOut i) (Lane false) w)
 
 -- the pass was lent lane i, and its slot is empty; or the lane was out
 abbrev pub IsAsked : ℕ → Me Slot View → Option LaneData → Me Slot View → Type 0
-IsAsked i v None w = Called v.0 (LaneOut i) [] (Lane false) v.0.lane v.0.lent w.0 × (w.1 ≡ v.1)
+IsAsked i v None w = CallsAt v (LaneOut i) (Lane false) w
 IsAsked i v (Some lane) w =
-    Called v.0 (LaneOut i) [] (Lane true) (i + 1) lane.shards w.0 × (lane ≡ lane_data v.0.plan (list_seen w.0 i)) × (w.1 ≡ (i, None) ∷ v.1)
+    Called (view_of v) (LaneOut i) [] (Lane true) (i + 1) lane.shards (view_of w) × (lane ≡ lane_data (view_of v).plan (list_seen (view_of w) i))
+    × (slots_out w ≡ (i, None) ∷ slots_out v)
 
 -- lane i is home again, longer by these shards
 abbrev pub Given : ℕ → List ℕ → Me Slot View → Me Slot View → Type 0
-Given i shards v w = Called v.0 (LaneBack i) shards Noted 0 [] w.0 × (w.1 ≡ [])
+Given i shards v w = Called (view_of v) (LaneBack i) shards Noted 0 [] (view_of w) × (slots_out w ≡ [])
 
 -- the list of the lane that is in the slot of a pass
 abbrev pub list_in_hand : List (ℕ × Slot) → List ℕ

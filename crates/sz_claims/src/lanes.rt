@@ -3,7 +3,7 @@ ghost use Rattle.std.specs.Prelude.{◌≡◌, ◌+◌, ◌<◌, ◌≤◌, ℕ,
 ghost use Rattle.std.specs.Mem.Slots.{IsFull, slots_items, slots_filled, slots_len};
 ghost use Rattle.std.specs.Vec.{vec_len, vec_capacity};
 ghost use Rattle.sz_book.specs.Lanes.{LaneData};
-ghost use Rattle.sz_claims.specs.Rule.{Lent, IsAsked, Given, lane_data, turn_at};
+ghost use Rattle.sz_claims.specs.Rule.{view_of, slots_out, Lent, IsAsked, Given, lane_data, turn_at};
 ghost use Rattle.sz_claims.specs.Known.{AreInHand};
 
 use crate::rule::{Gives, Lends, OfLane};
@@ -21,7 +21,7 @@ fn lend_as<T: Load, C: OfLane>(
 ) -> u64
     requires table { (seat.old.table_id ≡ shared.now.table_id) × (turn < shared.now.table_id.words) }
     requires lane { (C.lane < shared.now.key.lanes) × (turn ≡ turn_at shared.now.key.plan C.lane) }
-    requires idle { (0 < seat.old.me.0.weight) × (seat.old.me.0.lane ≡ 0) }
+    requires idle { (0 < (view_of seat.old.me).weight) × ((view_of seat.old.me).lane ≡ 0) }
     ensures same { seat.new.table_id ≡ seat.old.table_id }
     ensures lent { Lent C.lane seat.old.me result seat.new.me }
 {
@@ -37,7 +37,7 @@ pub fn take_out<T: Load>(
 ) -> Option<Lane<T>>
     requires table { (seat.old.table_id ≡ shared.now.table_id) × (turn < shared.now.table_id.words) }
     requires lane { (lane_no < shared.now.key.lanes) × (turn ≡ turn_at shared.now.key.plan lane_no) }
-    requires idle { (0 < seat.old.me.0.weight) × (seat.old.me.0.lane ≡ 0) × (seat.old.me.1 ≡ []) }
+    requires idle { (0 < (view_of seat.old.me).weight) × ((view_of seat.old.me).lane ≡ 0) × (slots_out seat.old.me ≡ []) }
     ensures same { seat.new.table_id ≡ seat.old.table_id }
     ensures asked { IsAsked lane_no seat.old.me result seat.new.me }
 {
@@ -51,8 +51,8 @@ pub fn take_out<T: Load>(
 
 fn give_as<T: Load, C: OfLane>(shared: &Shared<T>, seat: &mut Place<T>, turn: usize, lane_no: u32)
     requires table { (seat.old.table_id ≡ shared.now.table_id) × (turn < shared.now.table_id.words) × (turn ≡ turn_at shared.now.key.plan C.lane) }
-    requires has_lane { (0 < seat.old.me.0.weight) × (seat.old.me.0.lane ≡ C.lane + 1) × (seat.old.me.1 ≡ (C.lane, Some (lane_data seat.old.me.0.plan (seat.old.me.0.lent ++ C.shards))) ∷ []) }
-    requires further { AreInHand C.shards seat.old.me.0.mine }
+    requires has_lane { (0 < (view_of seat.old.me).weight) × ((view_of seat.old.me).lane ≡ C.lane + 1) × (slots_out seat.old.me ≡ (C.lane, Some (lane_data (view_of seat.old.me).plan ((view_of seat.old.me).lent ++ C.shards))) ∷ []) }
+    requires further { AreInHand C.shards (view_of seat.old.me).mine }
     ensures same { seat.new.table_id ≡ seat.old.table_id }
     ensures given { Given C.lane C.shards seat.old.me seat.new.me }
 {
@@ -68,11 +68,11 @@ pub fn bring_home<T: Load>(
     lane: Lane<T>,
 )
     requires table { (seat.old.table_id ≡ shared.now.table_id) × (turn < shared.now.table_id.words) × (turn ≡ turn_at shared.now.key.plan lane_no) }
-    requires has_lane { (0 < seat.old.me.0.weight) × (seat.old.me.0.lane ≡ lane_no + 1) × (seat.old.me.1 ≡ (lane_no, None) ∷ []) }
-    requires lane { lane ≡ lane_data seat.old.me.0.plan (seat.old.me.0.lent ++ drop (length seat.old.me.0.lent) lane.shards) }
-    requires further { AreInHand (drop (length seat.old.me.0.lent) lane.shards) seat.old.me.0.mine }
+    requires has_lane { (0 < (view_of seat.old.me).weight) × ((view_of seat.old.me).lane ≡ lane_no + 1) × (slots_out seat.old.me ≡ (lane_no, None) ∷ []) }
+    requires lane { lane ≡ lane_data (view_of seat.old.me).plan ((view_of seat.old.me).lent ++ drop (length (view_of seat.old.me).lent) lane.shards) }
+    requires further { AreInHand (drop (length (view_of seat.old.me).lent) lane.shards) (view_of seat.old.me).mine }
     ensures same { seat.new.table_id ≡ seat.old.table_id }
-    ensures given { Given lane_no (drop (length seat.old.me.0.lent) lane.shards) seat.old.me seat.new.me }
+    ensures given { Given lane_no (drop (length (view_of seat.old.me).lent) lane.shards) seat.old.me seat.new.me }
 {
     shared.exchange(seat, lane_no as usize, Some(lane));
     give_as::<T, Brand>(shared, seat, turn, lane_no);

@@ -2,12 +2,12 @@
 ghost use Rattle.std.specs.Prelude.{◌≡◌, ◌+◌, ◌*◌, ◌^◌, ◌<◌, ◌||◌, ℕ, false, [], ◌∷◌, length, map, IfOk};
 ghost use Rattle.sz_book_rules.specs.Machine.{draw_reply, number_reply};
 ghost use Rattle.sz_book_rules.specs.History.{HasDrawn, HasNumber};
-ghost use Rattle.sz_claims.specs.Rule.{Called, any_of, found_no_ticket, found_no_number, bit, number_at, deaths_at, settled_at};
+ghost use Rattle.sz_claims.specs.Rule.{view_of, CallsAt, any_of, found_no_ticket, found_no_number, bit, number_at, deaths_at, settled_at};
 ghost use Rattle.sz_claims.specs.Moves.{replies};
 
 use crate::lanes::{bring_home, slots_of, take_lanes, take_out};
 use crate::rule::{Law, Looks, Parts, Setup};
-use crate::steps::{Place, Shared, add, look, lower, mark, put};
+use crate::steps::{Change, Place, Shared, step};
 use crate::view::View;
 use crate::words::{blank, blank_rows, copy_words, first_words, least, zeros};
 use atomic_table::Table;
@@ -53,12 +53,13 @@ pub struct Pass<T: Load> {
 impl<T: Load> Model for Pass<T> {
     ghost use Rattle.std.specs.Prelude.{◌≡◌, map};
     ghost use Rattle.sz_claims.specs.Known.{PassData, pass_data, IsSound};
+    ghost use Rattle.sz_claims.specs.Rule.{view_of, slots_out};
 
     ghost Value = { PassData };
 
-    ghost view = { λ p. pass_data p.seat.table_id p.limit p.seat.me.0 };
+    ghost view = { λ p. pass_data p.seat.table_id p.limit (view_of p.seat.me) };
 
-    ghost invariant = { λ p. IsSound p.seat.me.0 p.seat.me.1 p.no_ticket p.no_number.items p.limit (map (λ r. r.items) p.room.items) };
+    ghost invariant = { λ p. IsSound (view_of p.seat.me) (slots_out p.seat.me) p.no_ticket p.no_number.items p.limit (map (λ r. r.items) p.room.items) };
 }
 
 impl<T: Load> Pass<T> {
@@ -255,13 +256,8 @@ impl<T: Load> Ledger<T> {
     {
         let word = 3 * self.setup.plan.shards() as usize + 1;
         let event = Event::Bad(shard);
-        lower(
-            &self.table.shared,
-            &mut pass.seat,
-            word,
-            &event,
-            shard as u64,
-        );
+        let change = Change::Lower(shard as u64);
+        step(&self.table.shared, &mut pass.seat, word, change, &event);
     }
 
     /// Settles the claim's shard by an attempt that ended with its emits. `Late` names the attempt that settled it before.
@@ -338,16 +334,16 @@ fn or(a: bool, b: bool) -> bool
 // A draw.
 fn draw_found<T: Load>(shared: &Shared<T>, seat: &mut Place<T>, no_ticket: bool) -> u64
     requires table { (seat.old.table_id ≡ shared.now.table_id) × (0 < shared.now.table_id.words) }
-    requires live { 0 < seat.old.me.0.weight }
-    requires no_ticket { any_of found_no_ticket seat.old.me.0.mine ≡ bit no_ticket }
-    ensures same { (seat.new.table_id ≡ seat.old.table_id) × (seat.new.me.1 ≡ seat.old.me.1) }
-    ensures call { Called seat.old.me.0 Event.Draw [] (replies shared.now.key.plan Event.Draw result) seat.old.me.0.lane seat.old.me.0.lent seat.new.me.0 }
+    requires live { 0 < (view_of seat.old.me).weight }
+    requires no_ticket { any_of found_no_ticket (view_of seat.old.me).mine ≡ bit no_ticket }
+    ensures same { seat.new.table_id ≡ seat.old.table_id }
+    ensures call { CallsAt seat.old.me Event.Draw (replies shared.now.key.plan Event.Draw result) seat.new.me }
 {
     let event = Event::Draw;
     if no_ticket {
-        look(shared, seat, 0, &event)
+        step(shared, seat, 0, Change::Keep, &event)
     } else {
-        add(shared, seat, 0, &event)
+        step(shared, seat, 0, Change::Next, &event)
     }
 }
 
@@ -359,47 +355,47 @@ fn number_found<T: Load>(
     before: bool,
 ) -> u64
     requires table { (seat.old.table_id ≡ shared.now.table_id) × (number_at claim.now.shard < shared.now.table_id.words) }
-    requires live { 0 < seat.old.me.0.weight }
-    requires drew { HasDrawn claim.now seat.old.me.0.mine }
-    requires before { any_of (found_no_number claim.now.ticket) seat.old.me.0.mine ≡ bit before }
-    ensures same { (seat.new.table_id ≡ seat.old.table_id) × (seat.new.me.1 ≡ seat.old.me.1) }
-    ensures call { Called seat.old.me.0 (Event.Number claim.now) [] (replies shared.now.key.plan (Event.Number claim.now) result) seat.old.me.0.lane seat.old.me.0.lent seat.new.me.0 }
+    requires live { 0 < (view_of seat.old.me).weight }
+    requires drew { HasDrawn claim.now (view_of seat.old.me).mine }
+    requires before { any_of (found_no_number claim.now.ticket) (view_of seat.old.me).mine ≡ bit before }
+    ensures same { seat.new.table_id ≡ seat.old.table_id }
+    ensures call { CallsAt seat.old.me (Event.Number claim.now) (replies shared.now.key.plan (Event.Number claim.now) result) seat.new.me }
 {
     let event = Event::Number(*claim);
     let word = 3 * claim.shard as usize + 1;
     if before {
-        look(shared, seat, word, &event)
+        step(shared, seat, word, Change::Keep, &event)
     } else {
-        add(shared, seat, word, &event)
+        step(shared, seat, word, Change::Next, &event)
     }
 }
 
 // A death.
 fn death<T: Load>(shared: &Shared<T>, seat: &mut Place<T>, claim: &Claim, number: u32)
     requires table { (seat.old.table_id ≡ shared.now.table_id) × (deaths_at claim.now.shard < shared.now.table_id.words) }
-    requires live { 0 < seat.old.me.0.weight }
-    requires drew { HasDrawn claim.now seat.old.me.0.mine }
-    requires given { HasNumber claim.now number seat.old.me.0.mine }
+    requires live { 0 < (view_of seat.old.me).weight }
+    requires drew { HasDrawn claim.now (view_of seat.old.me).mine }
+    requires given { HasNumber claim.now number (view_of seat.old.me).mine }
     requires small { number < 8 }
     requires died { T.died claim.now.shard number }
-    ensures same { (seat.new.table_id ≡ seat.old.table_id) × (seat.new.me.1 ≡ seat.old.me.1) }
-    ensures call { Called seat.old.me.0 (Event.Died claim.now number) [] Reply.Noted seat.old.me.0.lane seat.old.me.0.lent seat.new.me.0 }
+    ensures same { seat.new.table_id ≡ seat.old.table_id }
+    ensures call { CallsAt seat.old.me (Event.Died claim.now number) Reply.Noted seat.new.me }
 {
     let event = Event::Died(*claim, number);
     let word = 3 * claim.shard as usize + 2;
-    mark(shared, seat, word, &event, 1 << number);
+    step(shared, seat, word, Change::Mark(1 << number), &event);
 }
 
 // A settlement, with the word found.
 fn settle_found<T: Load>(shared: &Shared<T>, seat: &mut Place<T>, claim: &Claim, number: u32) -> u64
     requires table { (seat.old.table_id ≡ shared.now.table_id) × (settled_at claim.now.shard < shared.now.table_id.words) }
-    requires live { 0 < seat.old.me.0.weight }
-    requires drew { HasDrawn claim.now seat.old.me.0.mine }
-    requires given { HasNumber claim.now number seat.old.me.0.mine }
-    ensures same { (seat.new.table_id ≡ seat.old.table_id) × (seat.new.me.1 ≡ seat.old.me.1) }
-    ensures call { Called seat.old.me.0 (Event.Settle claim.now number) [] (replies shared.now.key.plan (Event.Settle claim.now number) result) seat.old.me.0.lane seat.old.me.0.lent seat.new.me.0 }
+    requires live { 0 < (view_of seat.old.me).weight }
+    requires drew { HasDrawn claim.now (view_of seat.old.me).mine }
+    requires given { HasNumber claim.now number (view_of seat.old.me).mine }
+    ensures same { seat.new.table_id ≡ seat.old.table_id }
+    ensures call { CallsAt seat.old.me (Event.Settle claim.now number) (replies shared.now.key.plan (Event.Settle claim.now number) result) seat.new.me }
 {
     let event = Event::Settle(*claim, number);
     let word = 3 * claim.shard as usize + 3;
-    put(shared, seat, word, &event, number as u64 + 1)
+    step(shared, seat, word, Change::Put(number as u64 + 1), &event)
 }

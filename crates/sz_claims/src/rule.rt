@@ -2,7 +2,7 @@
 ghost use Rattle.std.specs.Prelude.{◌≡◌, ℕ, List, [], ◌∷◌};
 ghost use Rattle.sz_book_rules.specs.declared.event.Event.{Event};
 ghost use Rattle.sz_book_rules.specs.declared.event.Reply.{Reply};
-ghost use Rattle.sz_claims.specs.Rule.{Kept, newcomer, Called, Looked, Lent, Given, split_left, split_right, merged, spent};
+ghost use Rattle.sz_claims.specs.Rule.{Kept, newcomer, view_of, slots_out, CallsAt, Looked, Lent, Given, split_left, split_right, merged, spent};
 
 use crate::view::View;
 use atomic_table::{Join, Play, Split, TableRule};
@@ -51,7 +51,7 @@ pub struct Makes<C> {
 }
 
 impl<T: Load, C: Asked> Play<Option<Lane<T>>, View> for Makes<C> {
-    ghost then = { λ s v n w. Called v.0 C.event [] (C.reply n) v.0.lane v.0.lent w.0 × (w.1 ≡ v.1) };
+    ghost then = { λ s v n w. CallsAt v C.event (C.reply n) w };
 }
 
 /// Which lane a step takes or brings, and the shards that come with it. Each step picks it.
@@ -89,7 +89,7 @@ impl<T: Load, C: OfLane> Play<Option<Lane<T>>, View> for Gives<C> {
 pub struct Looks;
 
 impl<T: Load> Play<Option<Lane<T>>, View> for Looks {
-    ghost then = { λ s v n w. Looked v.0 w.0 × (w.1 ≡ v.1) };
+    ghost then = { λ s v n w. Looked (view_of v) (view_of w) × (slots_out w ≡ slots_out v) };
 }
 
 /// A pass makes another, or takes one in.

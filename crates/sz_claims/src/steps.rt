@@ -1,8 +1,8 @@
 //! A step on a word that makes a call of a pass.
-ghost use Rattle.std.specs.Prelude.{◌≡◌, ◌+◌, ◌%◌, ◌^◌, ◌<◌, ◌==◌, min, bit_or, []};
-ghost use prog.Atomic.{either};
+ghost use Rattle.std.specs.Prelude.{◌≡◌, ◌<◌};
 ghost use Rattle.sz_claims.specs.Moves.{MayCall, replies};
-ghost use Rattle.sz_claims.specs.Rule.{Called};
+ghost use Rattle.sz_claims.specs.Changes.{changed};
+ghost use Rattle.sz_claims.specs.Rule.{view_of, CallsAt};
 
 use crate::rule::{Asked, Law, Makes, Setup};
 use crate::view::View;
@@ -14,143 +14,53 @@ pub type Shared<T> = atomic_table::Shared<Option<Lane<T>>, View, Setup, Law<T>>;
 
 pub type Place<T> = Seat<Option<Lane<T>>, View>;
 
-fn add_as<T: Load, C: Asked>(
+/// What a step makes of a word.
+pub enum Change {
+    /// Itself: the step only looks.
+    Keep,
+    /// 1 more.
+    Next,
+    /// What has these bits too.
+    Mark(u64),
+    /// At most this.
+    Lower(u64),
+    /// This, where it is 0.
+    Put(u64),
+}
+
+fn step_as<T: Load, C: Asked>(
     shared: &Shared<T>,
     seat: &mut Place<T>,
     word: usize,
+    change: Change,
     event: &Event,
 ) -> u64
     requires table { (seat.old.table_id ≡ shared.now.table_id) × (word < shared.now.table_id.words) }
-    requires may { MayCall T.died T.is_bad shared.now.key.plan shared.now.key.lanes seat.old.me.0 word (λ n. (n + 1) % 2 ^ 64) C.event C.reply }
-    ensures same { (seat.new.table_id ≡ seat.old.table_id) × (seat.new.me.1 ≡ seat.old.me.1) }
-    ensures call { Called seat.old.me.0 C.event [] (C.reply result) seat.old.me.0.lane seat.old.me.0.lent seat.new.me.0 }
+    requires may { MayCall T.died T.is_bad shared.now.key.plan shared.now.key.lanes (view_of seat.old.me) word (changed change) C.event C.reply }
+    ensures same { seat.new.table_id ≡ seat.old.table_id }
+    ensures call { CallsAt seat.old.me C.event (C.reply result) seat.new.me }
 {
-    shared.fetch_add::<Makes<C>>(seat, word, 1)
+    match change {
+        Change::Keep => shared.load::<Makes<C>>(seat, word),
+        Change::Next => shared.fetch_add::<Makes<C>>(seat, word, 1),
+        Change::Mark(bits) => shared.fetch_or::<Makes<C>>(seat, word, bits),
+        Change::Lower(most) => shared.fetch_min::<Makes<C>>(seat, word, most),
+        Change::Put(new) => shared.compare_exchange::<Makes<C>>(seat, word, 0, new),
+    }
 }
 
-/// Adds 1 to a word.
-pub fn add<T: Load>(shared: &Shared<T>, seat: &mut Place<T>, word: usize, event: &Event) -> u64
-    requires table { (seat.old.table_id ≡ shared.now.table_id) × (word < shared.now.table_id.words) }
-    requires may { MayCall T.died T.is_bad shared.now.key.plan shared.now.key.lanes seat.old.me.0 word (λ n. (n + 1) % 2 ^ 64) event.now (replies shared.now.key.plan event.now) }
-    ensures same { (seat.new.table_id ≡ seat.old.table_id) × (seat.new.me.1 ≡ seat.old.me.1) }
-    ensures call { Called seat.old.me.0 event.now [] (replies shared.now.key.plan event.now result) seat.old.me.0.lane seat.old.me.0.lent seat.new.me.0 }
-{
-    add_as::<T, Brand>(shared, seat, word, event)
-}
-
-fn look_as<T: Load, C: Asked>(
+/// Changes a word, and so makes the call.
+pub fn step<T: Load>(
     shared: &Shared<T>,
     seat: &mut Place<T>,
     word: usize,
+    change: Change,
     event: &Event,
 ) -> u64
     requires table { (seat.old.table_id ≡ shared.now.table_id) × (word < shared.now.table_id.words) }
-    requires may { MayCall T.died T.is_bad shared.now.key.plan shared.now.key.lanes seat.old.me.0 word (λ n. n) C.event C.reply }
-    ensures same { (seat.new.table_id ≡ seat.old.table_id) × (seat.new.me.1 ≡ seat.old.me.1) }
-    ensures call { Called seat.old.me.0 C.event [] (C.reply result) seat.old.me.0.lane seat.old.me.0.lent seat.new.me.0 }
+    requires may { MayCall T.died T.is_bad shared.now.key.plan shared.now.key.lanes (view_of seat.old.me) word (changed change) event.now (replies shared.now.key.plan event.now) }
+    ensures same { seat.new.table_id ≡ seat.old.table_id }
+    ensures call { CallsAt seat.old.me event.now (replies shared.now.key.plan event.now result) seat.new.me }
 {
-    shared.load::<Makes<C>>(seat, word)
-}
-
-/// Only looks at a word.
-pub fn look<T: Load>(shared: &Shared<T>, seat: &mut Place<T>, word: usize, event: &Event) -> u64
-    requires table { (seat.old.table_id ≡ shared.now.table_id) × (word < shared.now.table_id.words) }
-    requires may { MayCall T.died T.is_bad shared.now.key.plan shared.now.key.lanes seat.old.me.0 word (λ n. n) event.now (replies shared.now.key.plan event.now) }
-    ensures same { (seat.new.table_id ≡ seat.old.table_id) × (seat.new.me.1 ≡ seat.old.me.1) }
-    ensures call { Called seat.old.me.0 event.now [] (replies shared.now.key.plan event.now result) seat.old.me.0.lane seat.old.me.0.lent seat.new.me.0 }
-{
-    look_as::<T, Brand>(shared, seat, word, event)
-}
-
-fn mark_as<T: Load, C: Asked>(
-    shared: &Shared<T>,
-    seat: &mut Place<T>,
-    word: usize,
-    event: &Event,
-    bits: u64,
-) -> u64
-    requires table { (seat.old.table_id ≡ shared.now.table_id) × (word < shared.now.table_id.words) }
-    requires may { MayCall T.died T.is_bad shared.now.key.plan shared.now.key.lanes seat.old.me.0 word (λ n. bit_or n bits) C.event C.reply }
-    ensures same { (seat.new.table_id ≡ seat.old.table_id) × (seat.new.me.1 ≡ seat.old.me.1) }
-    ensures call { Called seat.old.me.0 C.event [] (C.reply result) seat.old.me.0.lane seat.old.me.0.lent seat.new.me.0 }
-{
-    shared.fetch_or::<Makes<C>>(seat, word, bits)
-}
-
-/// Sets bits of a word.
-pub fn mark<T: Load>(
-    shared: &Shared<T>,
-    seat: &mut Place<T>,
-    word: usize,
-    event: &Event,
-    bits: u64,
-) -> u64
-    requires table { (seat.old.table_id ≡ shared.now.table_id) × (word < shared.now.table_id.words) }
-    requires may { MayCall T.died T.is_bad shared.now.key.plan shared.now.key.lanes seat.old.me.0 word (λ n. bit_or n bits) event.now (replies shared.now.key.plan event.now) }
-    ensures same { (seat.new.table_id ≡ seat.old.table_id) × (seat.new.me.1 ≡ seat.old.me.1) }
-    ensures call { Called seat.old.me.0 event.now [] (replies shared.now.key.plan event.now result) seat.old.me.0.lane seat.old.me.0.lent seat.new.me.0 }
-{
-    mark_as::<T, Brand>(shared, seat, word, event, bits)
-}
-
-fn lower_as<T: Load, C: Asked>(
-    shared: &Shared<T>,
-    seat: &mut Place<T>,
-    word: usize,
-    event: &Event,
-    most: u64,
-) -> u64
-    requires table { (seat.old.table_id ≡ shared.now.table_id) × (word < shared.now.table_id.words) }
-    requires may { MayCall T.died T.is_bad shared.now.key.plan shared.now.key.lanes seat.old.me.0 word (λ n. min n most) C.event C.reply }
-    ensures same { (seat.new.table_id ≡ seat.old.table_id) × (seat.new.me.1 ≡ seat.old.me.1) }
-    ensures call { Called seat.old.me.0 C.event [] (C.reply result) seat.old.me.0.lane seat.old.me.0.lent seat.new.me.0 }
-{
-    shared.fetch_min::<Makes<C>>(seat, word, most)
-}
-
-/// Lowers a word.
-pub fn lower<T: Load>(
-    shared: &Shared<T>,
-    seat: &mut Place<T>,
-    word: usize,
-    event: &Event,
-    most: u64,
-) -> u64
-    requires table { (seat.old.table_id ≡ shared.now.table_id) × (word < shared.now.table_id.words) }
-    requires may { MayCall T.died T.is_bad shared.now.key.plan shared.now.key.lanes seat.old.me.0 word (λ n. min n most) event.now (replies shared.now.key.plan event.now) }
-    ensures same { (seat.new.table_id ≡ seat.old.table_id) × (seat.new.me.1 ≡ seat.old.me.1) }
-    ensures call { Called seat.old.me.0 event.now [] (replies shared.now.key.plan event.now result) seat.old.me.0.lane seat.old.me.0.lent seat.new.me.0 }
-{
-    lower_as::<T, Brand>(shared, seat, word, event, most)
-}
-
-fn put_as<T: Load, C: Asked>(
-    shared: &Shared<T>,
-    seat: &mut Place<T>,
-    word: usize,
-    event: &Event,
-    new: u64,
-) -> u64
-    requires table { (seat.old.table_id ≡ shared.now.table_id) × (word < shared.now.table_id.words) }
-    requires may { MayCall T.died T.is_bad shared.now.key.plan shared.now.key.lanes seat.old.me.0 word (λ n. either (n == 0) new n) C.event C.reply }
-    ensures same { (seat.new.table_id ≡ seat.old.table_id) × (seat.new.me.1 ≡ seat.old.me.1) }
-    ensures call { Called seat.old.me.0 C.event [] (C.reply result) seat.old.me.0.lane seat.old.me.0.lent seat.new.me.0 }
-{
-    shared.compare_exchange::<Makes<C>>(seat, word, 0, new)
-}
-
-/// Writes a word that is 0.
-pub fn put<T: Load>(
-    shared: &Shared<T>,
-    seat: &mut Place<T>,
-    word: usize,
-    event: &Event,
-    new: u64,
-) -> u64
-    requires table { (seat.old.table_id ≡ shared.now.table_id) × (word < shared.now.table_id.words) }
-    requires may { MayCall T.died T.is_bad shared.now.key.plan shared.now.key.lanes seat.old.me.0 word (λ n. either (n == 0) new n) event.now (replies shared.now.key.plan event.now) }
-    ensures same { (seat.new.table_id ≡ seat.old.table_id) × (seat.new.me.1 ≡ seat.old.me.1) }
-    ensures call { Called seat.old.me.0 event.now [] (replies shared.now.key.plan event.now result) seat.old.me.0.lane seat.old.me.0.lent seat.new.me.0 }
-{
-    put_as::<T, Brand>(shared, seat, word, event, new)
+    step_as::<T, Brand>(shared, seat, word, change, event)
 }

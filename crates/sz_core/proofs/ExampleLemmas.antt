@@ -21,7 +21,8 @@ function_is_sound = record {
 }
 
 -- f(1), after the table and the function
-call_is_sound : IsNode (record_sight [] [] (record nothing_declared { functions = identity.signature ∷ []; tables = sum_table ∷ [] })) call_node
+call_is_sound : IsNode (record_sight [] []
+    (record nothing_declared { functions = identity.signature ∷ []; tables = sum_table ∷ [] })) call_node
 unfolding IsNode
 call_is_sound = ((refl, tt), (identity.signature, refl, refl, refl, λ _. refl))
 

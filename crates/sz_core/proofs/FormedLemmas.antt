@@ -52,22 +52,26 @@ part_types : (fs : FieldShapes) → are_parts fs ≡ true → AreFormed (field_t
 unfolding are_parts
 part_types no_fields h = refl
 part_types (with_field (field name t number code) fs) h =
-    λ i. second_so _ (is_well_formed t) (first_so _ (are_parts fs) h) i && part_types fs (second_so _ (are_parts fs) h) i
+    λ i. second_so _ (is_well_formed t) (first_so _ (are_parts fs) h) i
+    && part_types fs (second_so _ (are_parts fs) h) i
 
 message_types : (fs : FieldShapes) → are_message_fields fs ≡ true → AreFormed (field_types fs)
 unfolding are_message_fields
 message_types no_fields h = refl
 message_types (with_field (field name t number code) fs) h =
-    λ i. second_so _ (is_well_formed t) (first_so _ (are_message_fields fs) h) i && message_types fs (second_so _ (are_message_fields fs) h) i
+    λ i. second_so _ (is_well_formed t) (first_so _ (are_message_fields fs) h) i
+    && message_types fs (second_so _ (are_message_fields fs) h) i
 
 -- the types of fields of a well-formed type
 pub fields_formed : (t : Shape) (fs : FieldShapes) → HasFields t fs → IsFormed t → AreFormed (field_types fs)
 unfolding is_well_formed
 fields_formed (Shape.tuple gs) fs same h =
-    subst (λ x. AreFormed (field_types x)) (sym same) (part_types gs (second_so (are_distinct_texts (names_of gs)) (are_parts gs) h))
+    subst (λ x. AreFormed (field_types x)) (sym same)
+    (part_types gs (second_so (are_distinct_texts (names_of gs)) (are_parts gs) h))
 fields_formed (Shape.proto gs) fs same h =
     subst (λ x. AreFormed (field_types x)) (sym same)
-    (message_types gs (second_so (are_distinct_texts (names_of gs) && are_distinct_numbers (numbers_of gs)) (are_message_fields gs) h))
+    (message_types gs
+    (second_so (are_distinct_texts (names_of gs) && are_distinct_numbers (numbers_of gs)) (are_message_fields gs) h))
 fields_formed _ fs same h = absurd same
 
 -- a type of a list of well-formed ones

@@ -28,7 +28,8 @@ literal_formed (Datum.bytes s) t h = subst IsFormed (sym h) bytes_formed
 literal_formed _ t h = absurd h
 
 -- the result's type of one of the functions
-result_formed : (fs : List Signature) (n : ℕ) → AreFormed (results_of fs) → IfSome (slice_get fs n) (λ s. IsFormed s.result)
+result_formed : (fs : List Signature) (n : ℕ) → AreFormed (results_of fs)
+    → IfSome (slice_get fs n) (λ s. IsFormed s.result)
 result_formed [] n h = tt
 result_formed (f ∷ fs) zero h = first_so _ (are_well_formed (results_of fs)) h
 result_formed (f ∷ fs) (suc n) h = result_formed fs n (second_so (is_well_formed f.result) _ h)
@@ -46,7 +47,8 @@ module _ (g : Sight) (has : HasFormedTypes g) where
     form_formed t (local n) h = some_has IsFormed (formed_at g.locals n has.locals) h.1
     form_formed t (static n) h = some_has IsFormed (formed_at g.statics n has.statics) h
     form_formed t input h = subst IsFormed (sym h.1) bytes_formed
-    form_formed t (call f es) h = subst IsFormed (sym h.1.3) (some_has (λ (s : Signature). IsFormed s.result) (result_formed g.functions f has.results) h.1.1)
+    form_formed t (call f es) h = subst IsFormed (sym h.1.3)
+        (some_has (λ (s : Signature). IsFormed s.result) (result_formed g.functions f has.results) h.1.1)
     form_formed t (builtin b es) h = some_has IsFormed (builtin_formed b (types_of es) (nodes_formed es h.0)) h.1
     form_formed t (def e) h = subst IsFormed (sym h.1) truth_formed
     form_formed t (convert e) h = h.1
@@ -56,7 +58,8 @@ module _ (g : Sight) (has : HasFormedTypes g) where
     form_formed t (index e i) h = some_has IsFormed (index_formed (type_of e) (type_of i) (node_formed e h.0)) h.2
     form_formed t (slice e i j) h = some_has IsFormed (slice_formed (type_of e) (node_formed e h.0)) h.3
     form_formed t (field e n) h =
-        some_has IsFormed (formed_at (field_types h.1.0) n (fields_formed (type_of e) h.1.0 h.1.1 (node_formed e h.0))) h.1.2
+        some_has IsFormed
+        (formed_at (field_types h.1.0) n (fields_formed (type_of e) h.1.0 h.1.1 (node_formed e h.0))) h.1.2
     form_formed t (unary o e) h = some_has IsFormed (unary_formed o (type_of e)) h.1
     form_formed t (binary o a b) h = some_has IsFormed (binary_formed o (type_of a) (type_of b) (node_formed a h.0)) h.2
     form_formed t (both a b) h = subst IsFormed (sym h.4) truth_formed
@@ -67,11 +70,12 @@ module _ (g : Sight) (has : HasFormedTypes g) where
     nodes_formed (with_node e es) h = λ i. node_formed e h.0 i && nodes_formed es h.1 i
 
 -- the types of statics, and of what functions give, are well formed wherever they are declared
-statics_formed : (locals : List Shape) (seen : List ℕ) (d : Declared) (front rest : List Item) → AreItems locals seen d (front ++ rest)
-    → AreFormed (declared_by front).statics
+statics_formed : (locals : List Shape) (seen : List ℕ) (d : Declared) (front rest : List Item)
+    → AreItems locals seen d (front ++ rest) → AreFormed (declared_by front).statics
 unfolding AreItems
 statics_formed locals seen d [] rest sound = refl
-statics_formed locals seen d (items.table t ∷ front) rest sound = statics_formed locals seen (record d { tables = d.tables ++ t ∷ [] }) front rest sound.1
+statics_formed locals seen d (items.table t ∷ front) rest sound =
+    statics_formed locals seen (record d { tables = d.tables ++ t ∷ [] }) front rest sound.1
 statics_formed locals seen d (items.function f ∷ front) rest sound =
     statics_formed locals seen (record d { functions = d.functions ++ f.signature ∷ [] }) front rest sound.1
 statics_formed locals seen d (items.static s ∷ front) rest sound =
@@ -80,13 +84,15 @@ statics_formed locals seen d (items.static s ∷ front) rest sound =
 statics_formed locals seen d (items.statement s ∷ front) rest sound =
     statics_formed locals (seen_after (record_sight locals seen d) s).seen d front rest sound.1
 
-results_formed : (locals : List Shape) (seen : List ℕ) (d : Declared) (front rest : List Item) → AreItems locals seen d (front ++ rest)
-    → AreFormed (results_of (declared_by front).functions)
+results_formed : (locals : List Shape) (seen : List ℕ) (d : Declared) (front rest : List Item)
+    → AreItems locals seen d (front ++ rest) → AreFormed (results_of (declared_by front).functions)
 unfolding AreItems
 results_formed locals seen d [] rest sound = refl
-results_formed locals seen d (items.table t ∷ front) rest sound = results_formed locals seen (record d { tables = d.tables ++ t ∷ [] }) front rest sound.1
+results_formed locals seen d (items.table t ∷ front) rest sound =
+    results_formed locals seen (record d { tables = d.tables ++ t ∷ [] }) front rest sound.1
 results_formed locals seen d (items.function f ∷ front) rest sound =
-    let after = results_formed locals seen (record d { functions = d.functions ++ f.signature ∷ [] }) front rest sound.1 in
+    let after =
+    results_formed locals seen (record d { functions = d.functions ++ f.signature ∷ [] }) front rest sound.1 in
     λ i. first_so _ (are_well_formed f.locals) sound.0.types i && after i
 results_formed locals seen d (items.static s ∷ front) rest sound =
     results_formed locals seen (record d { statics = d.statics ++ s.type ∷ [] }) front rest sound.1
@@ -98,8 +104,8 @@ split_items : (program : Core) (front rest : List Item) → IsSound program → 
     → AreItems program.locals [] nothing_declared (front ++ rest)
 split_items program front rest sound is = subst (λ xs. AreItems program.locals [] nothing_declared xs) is sound.items
 
-pub record_formed : (program : Core) (front rest : List Item) (seen : List ℕ) → IsSound program → program.items ≡ front ++ rest
-    → HasFormedTypes (record_sight program.locals seen (declared_by front))
+pub record_formed : (program : Core) (front rest : List Item) (seen : List ℕ) → IsSound program
+    → program.items ≡ front ++ rest → HasFormedTypes (record_sight program.locals seen (declared_by front))
 record_formed program front rest seen sound is =
     let split = split_items program front rest sound is in
     record {
@@ -114,15 +120,17 @@ static_formed program front rest sound is =
     let h = record_formed program front rest [] sound is in
     record { locals = refl; statics = h.statics; results = h.results }
 
-pub function_formed : (program : Core) (front rest : List Item) (f : Function) → IsSound program → program.items ≡ front ++ items.function f ∷ rest
-    → HasFormedTypes (function_sight (declared_by front) f)
+pub function_formed : (program : Core) (front rest : List Item) (f : Function) → IsSound program
+    → program.items ≡ front ++ items.function f ∷ rest → HasFormedTypes (function_sight (declared_by front) f)
 unfolding AreItems
 function_formed program front rest f sound is =
     let h = record_formed program front (items.function f ∷ rest) [] sound is in
     let here = (sound_after_front program front (items.function f ∷ rest) sound is).1.0 in
-    let with_it = record_formed program (front ++ items.function f ∷ []) rest [] sound (is ∙ sym (append_assoc front (items.function f ∷ []) rest)) in
+    let with_it = record_formed program (front ++ items.function f ∷ []) rest [] sound
+    (is ∙ sym (append_assoc front (items.function f ∷ []) rest)) in
     record {
       locals = second_so (is_well_formed f.signature.result) _ here.types;
       statics = h.statics;
-      results = subst (λ d. AreFormed (results_of d.functions)) (declared_more front (items.function f ∷ [])) with_it.results;
+      results = subst (λ d. AreFormed (results_of d.functions))
+          (declared_more front (items.function f ∷ [])) with_it.results;
     }

@@ -1,4 +1,5 @@
--- Whether a statement emits, itself or through a function that it calls. The text decides, whether or not it is reached.
+-- Whether a statement emits, itself or through a function that it calls. The text decides, whether or not it is
+-- reached.
 use Rattle.std.specs.Prelude.{List, [], ◌∷◌, Bool, true, false, ◌||◌, Option, Some, None, slice_get}
 use Rattle.sz_core.specs.Nodes.{Node, node, Form, constant, local, static, input, call, builtin, def, convert, array, tuple, mapping, index, slice, field}
 use Rattle.sz_core.specs.Nodes.{unary, binary, both, either, Nodes, no_nodes, with_node, Pairings, no_pairings, with_pairing}
@@ -80,6 +81,7 @@ module _ (functions : List Signature) where
     stms_emit no_stms = false
     stms_emit (with_stm s ss) = stm_emits s || stms_emit ss
 
--- whether a function with these statements emits, where these functions are declared before it: a call of itself adds nothing
+-- whether a function with these statements emits, where these functions are declared before it: a call of itself adds
+-- nothing
 abbrev pub body_emits : List Signature → Stms → Bool
 body_emits functions body = stms_emit functions body

@@ -27,7 +27,8 @@ identity = record {
 
 -- f(1)
 abbrev pub call_node : Node
-call_node = node (column 71) Shape.int (call 0 (with_node (node (column 73) Shape.int (constant (Datum.int (pos 1)))) no_nodes))
+call_node = node (column 71) Shape.int
+    (call 0 (with_node (node (column 73) Shape.int (constant (Datum.int (pos 1)))) no_nodes))
 
 -- emit t <- f(1);
 abbrev pub emit_call : Stm

@@ -62,7 +62,8 @@ abbrev mutual
 mutual
   pub node_apart : (x y : Node) → node_tree x ≡ node_tree y → x ≡ y
   node_apart (node p t f) (node q u g) h =
-      λ i. node (place_code.inj p q (ap head h) i) (shape_code.inj t u (ap (λ g. head (tail g)) h) i) (form_apart f g (ap (λ g. tail (tail g)) h) i)
+      λ i. node (place_code.inj p q (ap head h) i) (shape_code.inj t u (ap (λ g. head (tail g)) h) i)
+      (form_apart f g (ap (λ g. tail (tail g)) h) i)
 
   form_apart : (f g : Form) → form_tree f ≡ form_tree g → f ≡ g
   form_apart (constant d) (constant e) h = ap constant (datum_code.inj d e (ap tail h))
@@ -72,7 +73,8 @@ mutual
   form_apart (call m es) (call n fs) h =
       λ i. call (num (head (tail (h i)))) (nodes_apart es fs (ap (λ g. tail (tail g)) h) i)
   form_apart (builtin b es) (builtin c fs) h =
-      λ i. builtin (builtin_code.inj b c (ap (λ g. head (tail g)) h) i) (nodes_apart es fs (ap (λ g. tail (tail g)) h) i)
+      λ i. builtin (builtin_code.inj b c (ap (λ g. head (tail g)) h) i)
+      (nodes_apart es fs (ap (λ g. tail (tail g)) h) i)
   form_apart (def e) (def f) h = ap def (node_apart e f (ap tail h))
   form_apart (convert e) (convert f) h = ap convert (node_apart e f (ap tail h))
   form_apart (array es) (array fs) h = ap array (nodes_apart es fs (ap tail h))
@@ -83,12 +85,13 @@ mutual
   form_apart (slice a b c) (slice d e f) h =
       λ i. slice (node_apart a d (ap (λ g. head (tail g)) h) i) (node_apart b e (ap (λ g. head (tail (tail g))) h) i)
       (node_apart c f (ap (λ g. tail (tail (tail g))) h) i)
-  form_apart (field e m) (field f n) h = λ i. field (node_apart e f (ap (λ g. head (tail g)) h) i) (num (tail (tail (h i))))
+  form_apart (field e m) (field f n) h =
+      λ i. field (node_apart e f (ap (λ g. head (tail g)) h) i) (num (tail (tail (h i))))
   form_apart (unary o e) (unary p f) h =
       λ i. unary (unary_code.inj o p (ap (λ g. head (tail g)) h) i) (node_apart e f (ap (λ g. tail (tail g)) h) i)
   form_apart (binary o a b) (binary p c d) h =
-      λ i. binary (binary_code.inj o p (ap (λ g. head (tail g)) h) i) (node_apart a c (ap (λ g. head (tail (tail g))) h) i)
-      (node_apart b d (ap (λ g. tail (tail (tail g))) h) i)
+      λ i. binary (binary_code.inj o p (ap (λ g. head (tail g)) h) i)
+      (node_apart a c (ap (λ g. head (tail (tail g))) h) i) (node_apart b d (ap (λ g. tail (tail (tail g))) h) i)
   form_apart (both a b) (both c d) h =
       λ i. both (node_apart a c (ap (λ g. head (tail g)) h) i) (node_apart b d (ap (λ g. tail (tail g)) h) i)
   form_apart (either a b) (either c d) h =
@@ -97,7 +100,8 @@ mutual
 
   pub nodes_apart : (x y : Nodes) → nodes_tree x ≡ nodes_tree y → x ≡ y
   nodes_apart no_nodes no_nodes h = λ i. no_nodes
-  nodes_apart (with_node e es) (with_node f fs) h = λ i. with_node (node_apart e f (ap head h) i) (nodes_apart es fs (ap tail h) i)
+  nodes_apart (with_node e es) (with_node f fs) h =
+      λ i. with_node (node_apart e f (ap head h) i) (nodes_apart es fs (ap tail h) i)
   nodes_apart x y h = absurd (let sizes = ap is_pair h in omega arith)
 
   pairings_apart : (x y : Pairings) → pairings_tree x ≡ pairings_tree y → x ≡ y

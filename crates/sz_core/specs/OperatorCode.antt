@@ -12,7 +12,8 @@ use Rattle.sz_types.specs.declared.operator.Builtin.TheVariants as builtins
 
 -- how a place is stored
 abbrev pub place_code : Coded Place
-place_code = code_by (ℕ × ℕ) (coded× coded_ℕ coded_ℕ) (λ p. (p.line, p.column)) (λ q. record { line = q.0; column = q.1 }) (λ p. refl)
+place_code = code_by (ℕ × ℕ) (coded× coded_ℕ coded_ℕ) (λ p. (p.line, p.column))
+    (λ q. record { line = q.0; column = q.1 }) (λ p. refl)
 
 -- the operators of one operand, in order, and the place of each among them
 abbrev unary_all : List UnOp
@@ -37,8 +38,9 @@ unary_code = code_by ℕ coded_ℕ unary_number unary_at unary_again
 -- the operators of two operands, in order, and the place of each among them
 abbrev binary_all : List BinOp
 binary_all =
-    binary.Add ∷ binary.Sub ∷ binary.Mul ∷ binary.Div ∷ binary.Rem ∷ binary.Shl ∷ binary.Shr ∷ binary.BitAnd ∷ binary.BitOr
-    ∷ binary.BitXor ∷ binary.Equal ∷ binary.NotEqual ∷ binary.Less ∷ binary.LessEqual ∷ binary.Greater ∷ binary.GreaterEqual ∷ []
+    binary.Add ∷ binary.Sub ∷ binary.Mul ∷ binary.Div ∷ binary.Rem ∷ binary.Shl ∷ binary.Shr
+    ∷ binary.BitAnd ∷ binary.BitOr ∷ binary.BitXor ∷ binary.Equal ∷ binary.NotEqual ∷ binary.Less ∷ binary.LessEqual
+    ∷ binary.Greater ∷ binary.GreaterEqual ∷ []
 
 abbrev binary_number : BinOp → ℕ
 binary_number binary.Add = 0

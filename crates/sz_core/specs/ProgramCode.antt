@@ -56,7 +56,8 @@ item_again (static s) = refl
 item_again (statement s) = refl
 
 abbrev items_code : Coded (List Item)
-items_code = coded_list (code_by Kinds (coded⊎ (coded⊎ declarations_code function_code) (coded⊎ static_code stm_code)) kinds_of made_of item_again)
+items_code = coded_list (code_by Kinds
+    (coded⊎ (coded⊎ declarations_code function_code) (coded⊎ static_code stm_code)) kinds_of made_of item_again)
 
 -- how a program is stored
 abbrev pub core_code : Coded Core

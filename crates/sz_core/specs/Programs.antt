@@ -6,8 +6,8 @@ use Rattle.sz_types.specs.declared.place.Place.{Place}
 use Rattle.sz_core.specs.Nodes.{Node}
 use Rattle.sz_core.specs.Statements.{Stm, Stms}
 
--- what a call needs to know of a function: the types of its parameters, that of its result, and whether it emits, itself
--- or through a function that it calls
+-- what a call needs to know of a function: the types of its parameters, that of its result, and whether it emits,
+-- itself or through a function that it calls
 pub record Signature : Type 0 where
   pub parameters : List Shape
   pub result : Shape

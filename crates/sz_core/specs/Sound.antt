@@ -112,7 +112,8 @@ is_all_last (v ∷ vs) = if is_for_all v then are_for_all vs else is_all_last vs
 abbrev pub AreQuantified : Sight → List Quantified → Type 0
 AreQuantified g [] = Unit {0}
 AreQuantified g (v ∷ vs) =
-    IsNode g v.base × IsFree g v.local × ((t : Shape) × (slice_get g.locals v.local ≡ Some t) × (candidate_type v.slice (type_of v.base) ≡ Some t))
+    IsNode g v.base × IsFree g v.local
+    × ((t : Shape) × (slice_get g.locals v.local ≡ Some t) × (candidate_type v.slice (type_of v.base) ≡ Some t))
     × HasOwnType v.base × AreQuantified (with_bound v g) vs
 
 unfoldable mutual
@@ -134,7 +135,8 @@ unfoldable mutual
   IsStm g a (return_value p e) = IsNode g e × (a.result ≡ Some (type_of e))
   IsStm g a (end_record p) = a.result ≡ None
   IsStm g a (emit p n es e w) =
-      AreNodes g es × IsNode g e × ((d : Declaration) × (slice_get g.tables n ≡ Some d) × (types_of es ≡ d.indexes) × (type_of e ≡ d.element)
+      AreNodes g es × IsNode g e
+      × ((d : Declaration) × (slice_get g.tables n ≡ Some d) × (types_of es ≡ d.indexes) × (type_of e ≡ d.element)
       × IsWeightOf g d.weight w)
   IsStm g a (when p vs c s) =
       AreQuantified (in_condition g) vs × IsTest (with_all_bound vs (in_condition g)) c × (is_all_last vs ≡ true)
@@ -231,7 +233,8 @@ record_sight locals seen d = record {
 unfoldable pub AreItems : List Shape → List ℕ → Declared → List Item → Type 0
 AreItems locals seen d [] = Unit {0}
 AreItems locals seen d (items.table t ∷ rest) = IsTable d t × AreItems locals seen (record d { tables = d.tables ++ t ∷ [] }) rest
-AreItems locals seen d (items.function f ∷ rest) = IsFunction d f × AreItems locals seen (record d { functions = d.functions ++ f.signature ∷ [] }) rest
+AreItems locals seen d (items.function f ∷ rest) =
+    IsFunction d f × AreItems locals seen (record d { functions = d.functions ++ f.signature ∷ [] }) rest
 AreItems locals seen d (items.static s ∷ rest) = IsStatic d s × AreItems locals seen (record d { statics = d.statics ++ s.type ∷ [] }) rest
 AreItems locals seen d (items.statement s ∷ rest) =
     let g = record_sight locals seen d in

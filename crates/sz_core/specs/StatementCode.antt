@@ -45,7 +45,8 @@ quantity_again each = refl
 quantity_again all = refl
 
 abbrev quantified_code : Coded (List Quantified)
-quantified_code = coded_list (code_by (ℕ × (ℕ × (Node × Bool))) (coded× coded_ℕ (coded× coded_ℕ (coded× node_code coded_bool)))
+quantified_code =
+    coded_list (code_by (ℕ × (ℕ × (Node × Bool))) (coded× coded_ℕ (coded× coded_ℕ (coded× node_code coded_bool)))
     (λ v. (quantity_number v.quantity, (v.local, (v.base, v.slice))))
     (λ p. record { quantity = quantity_at p.0; local = p.1.0; base = p.1.1.0; slice = p.1.1.1 })
     (λ v i. record { quantity = quantity_again v.quantity i; local = v.local; base = v.base; slice = v.slice }))
@@ -55,18 +56,22 @@ abbrev mutual
   stm_tree (block ss) = gcons (gnum 0) (stms_tree ss)
   stm_tree (clear n) = gcons (gnum 1) (gnum n)
   stm_tree (keep p n e) = gcons (gnum 2) (gcons (place_code.code p) (gcons (gnum n) (node_tree e)))
-  stm_tree (store p n ss e) = gcons (gnum 3) (gcons (place_code.code p) (gcons (gnum n) (gcons (steps_code.code ss) (node_tree e))))
+  stm_tree (store p n ss e) =
+      gcons (gnum 3) (gcons (place_code.code p) (gcons (gnum n) (gcons (steps_code.code ss) (node_tree e))))
   stm_tree (evaluate p e) = gcons (gnum 4) (gcons (place_code.code p) (node_tree e))
-  stm_tree (branch p c s t) = gcons (gnum 5) (gcons (place_code.code p) (gcons (node_tree c) (gcons (stm_tree s) (stm_tree t))))
+  stm_tree (branch p c s t) =
+      gcons (gnum 5) (gcons (place_code.code p) (gcons (node_tree c) (gcons (stm_tree s) (stm_tree t))))
   stm_tree (while p c s) = gcons (gnum 6) (gcons (place_code.code p) (gcons (node_tree c) (stm_tree s)))
   stm_tree (do_while p s c) = gcons (gnum 7) (gcons (place_code.code p) (gcons (stm_tree s) (node_tree c)))
-  stm_tree (for_loop p c t s) = gcons (gnum 8) (gcons (place_code.code p) (gcons (option_code.code c) (gcons (stm_tree t) (stm_tree s))))
+  stm_tree (for_loop p c t s) =
+      gcons (gnum 8) (gcons (place_code.code p) (gcons (option_code.code c) (gcons (stm_tree t) (stm_tree s))))
   stm_tree break = gnum 9
   stm_tree continue = gnum 10
   stm_tree (return_value p e) = gcons (gnum 11) (gcons (place_code.code p) (node_tree e))
   stm_tree (end_record p) = gcons (gnum 12) (place_code.code p)
   stm_tree (emit p n es e w) =
-      gcons (gnum 13) (gcons (place_code.code p) (gcons (gnum n) (gcons (nodes_tree es) (gcons (node_tree e) (option_code.code w)))))
+      gcons (gnum 13)
+      (gcons (place_code.code p) (gcons (gnum n) (gcons (nodes_tree es) (gcons (node_tree e) (option_code.code w)))))
   stm_tree (when p vs c s) =
       gcons (gnum 14) (gcons (place_code.code p) (gcons (quantified_code.code vs) (gcons (node_tree c) (stm_tree s))))
 
@@ -92,7 +97,8 @@ mutual
   stm_apart (block ss) (block ts) h = ap block (stms_apart ss ts (ap tail h))
   stm_apart (clear m) (clear n) h = ap clear (ap (λ g. num (tail g)) h)
   stm_apart (keep p m e) (keep q n f) h =
-      λ i. keep (place_code.inj p q (ap first h) i) (num (second (h i))) (node_apart e f (ap (λ g. tail (tail (tail g))) h) i)
+      λ i. keep (place_code.inj p q (ap first h) i) (num (second (h i)))
+      (node_apart e f (ap (λ g. tail (tail (tail g))) h) i)
   stm_apart (store p m ss e) (store q n ts f) h =
       λ i. store (place_code.inj p q (ap first h) i) (num (second (h i))) (steps_code.inj ss ts (ap third h) i)
       (node_apart e f (ap (λ g. tail (tail (tail (tail g)))) h) i)
@@ -108,8 +114,8 @@ mutual
       λ i. do_while (place_code.inj p q (ap first h) i) (stm_apart s u (ap second h) i)
       (node_apart c d (ap (λ g. tail (tail (tail g))) h) i)
   stm_apart (for_loop p c t s) (for_loop q d u v) h =
-      λ i. for_loop (place_code.inj p q (ap first h) i) (option_code.inj c d (ap second h) i) (stm_apart t u (ap third h) i)
-      (stm_apart s v (ap (λ g. tail (tail (tail (tail g)))) h) i)
+      λ i. for_loop (place_code.inj p q (ap first h) i) (option_code.inj c d (ap second h) i)
+      (stm_apart t u (ap third h) i) (stm_apart s v (ap (λ g. tail (tail (tail (tail g)))) h) i)
   stm_apart break break h = λ i. break
   stm_apart continue continue h = λ i. continue
   stm_apart (return_value p e) (return_value q f) h =
@@ -119,13 +125,14 @@ mutual
       λ i. emit (place_code.inj p q (ap first h) i) (num (second (h i))) (nodes_apart es fs (ap third h) i)
       (node_apart e f (ap fourth h) i) (option_code.inj w x (ap (λ g. tail (tail (tail (tail (tail g))))) h) i)
   stm_apart (when p vs c s) (when q ws d t) h =
-      λ i. when (place_code.inj p q (ap first h) i) (quantified_code.inj vs ws (ap second h) i) (node_apart c d (ap third h) i)
-      (stm_apart s t (ap (λ g. tail (tail (tail (tail g)))) h) i)
+      λ i. when (place_code.inj p q (ap first h) i) (quantified_code.inj vs ws (ap second h) i)
+      (node_apart c d (ap third h) i) (stm_apart s t (ap (λ g. tail (tail (tail (tail g)))) h) i)
   stm_apart s t h = absurd (let kinds = ap (λ g. num (head g)) h in omega arith)
 
   pub stms_apart : (x y : Stms) → stms_tree x ≡ stms_tree y → x ≡ y
   stms_apart no_stms no_stms h = λ i. no_stms
-  stms_apart (with_stm s ss) (with_stm t ts) h = λ i. with_stm (stm_apart s t (ap head h) i) (stms_apart ss ts (ap tail h) i)
+  stms_apart (with_stm s ss) (with_stm t ts) h =
+      λ i. with_stm (stm_apart s t (ap head h) i) (stms_apart ss ts (ap tail h) i)
   stms_apart x y h = absurd (let sizes = ap is_pair h in omega arith)
 
 -- how a statement and several are stored

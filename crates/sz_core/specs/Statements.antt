@@ -14,8 +14,8 @@ pub data Quantity : Type 0 where
   each : Quantity
   all : Quantity
 
--- a variable of `when`: how it is quantified, its number, what its candidates are made of, and whether they are the bounds of
--- slices of it and not its indexes or keys
+-- a variable of `when`: how it is quantified, its number, what its candidates are made of, and whether they are the
+-- bounds of slices of it and not its indexes or keys
 pub record Quantified : Type 0 where
   pub quantity : Quantity
   pub local : ℕ

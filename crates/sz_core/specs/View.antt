@@ -47,7 +47,8 @@ abbrev mutual
       slice (node p (shape_of t) (form_of f)) (node q (shape_of u) (form_of g)) (node r (shape_of v) (form_of h))
   form_of (forms.Field' b p t f n) = field (node p (shape_of t) (form_of f)) n
   form_of (forms.Unary' o b p t f) = unary o (node p (shape_of t) (form_of f))
-  form_of (forms.Binary' o b p t f c q u g) = binary o (node p (shape_of t) (form_of f)) (node q (shape_of u) (form_of g))
+  form_of (forms.Binary' o b p t f c q u g) =
+      binary o (node p (shape_of t) (form_of f)) (node q (shape_of u) (form_of g))
   form_of (forms.And' b p t f c q u g) = both (node p (shape_of t) (form_of f)) (node q (shape_of u) (form_of g))
   form_of (forms.Or' b p t f c q u g) = either (node p (shape_of t) (form_of f)) (node q (shape_of u) (form_of g))
 
@@ -59,7 +60,8 @@ abbrev mutual
   -- the keys and values of a row
   pub pairings_of_row : {m : _} → Row_of-CorePair m → Pairings
   pairings_of_row end_of-CorePair = no_pairings
-  pairings_of_row (more_of-CorePair p t f q u g ps) = with_pairing (node p (shape_of t) (form_of f)) (node q (shape_of u) (form_of g)) (pairings_of_row ps)
+  pairings_of_row (more_of-CorePair p t f q u g ps) =
+      with_pairing (node p (shape_of t) (form_of f)) (node q (shape_of u) (form_of g)) (pairings_of_row ps)
 
 -- an expression
 abbrev pub node_of : CoreExpr → Node
@@ -112,7 +114,11 @@ abbrev pub signature_of : CoreSignature → Signature
 signature_of s = record { parameters = s.parameters; result = shape_of s.result; emits = s.emits }
 
 abbrev pub function_of : CoreFunction → Function
-function_of f = record { signature = signature_of f.signature; locals = f.locals; body = stms_of (map stm_of f.body.items) }
+function_of f = record {
+  signature = signature_of f.signature;
+  locals = f.locals;
+  body = stms_of (map stm_of f.body.items);
+}
 
 abbrev pub static_of : CoreStatic → Static
 static_of s = record { place = s.place; type = shape_of s.ty; value = node_of s.value }

@@ -64,9 +64,9 @@ takes_encoding code (Shape.array t) = is_plain code || encodes_number t
 takes_encoding code t = is_plain code || encodes_number t
 
 unfoldable mutual
-  -- whether the type is well formed: fields of one tuple or message have different names, a tuple's fields have no number
-  -- and no encoding, and those of a message have different numbers within bounds, types that a message can hold, and
-  -- encodings that their types take
+  -- whether the type is well formed: fields of one tuple or message have different names, a tuple's fields have no
+  -- number and no encoding, and those of a message have different numbers within bounds, types that a message can
+  -- hold, and encodings that their types take
   pub is_well_formed : Shape → Bool
   is_well_formed Shape.truth = true
   is_well_formed Shape.int = true
@@ -82,7 +82,8 @@ unfoldable mutual
   -- whether these can be the fields of a tuple
   pub are_parts : FieldShapes → Bool
   are_parts no_fields = true
-  are_parts (with_field (field name t number code) fields) = nat_eq number 0 && is_plain code && is_well_formed t && are_parts fields
+  are_parts (with_field (field name t number code) fields) =
+      nat_eq number 0 && is_plain code && is_well_formed t && are_parts fields
 
   -- whether these can be the fields of a message
   pub are_message_fields : FieldShapes → Bool

@@ -35,26 +35,36 @@ none_right : (a b : Bool) → (a || b) ≡ false → b ≡ false
 none_right true b none = absurd cc
 none_right false b none = none
 
-in_some-append : (spans : List Span) (span : Span) (place : ℕ) → is_in_some (spans ++ span ∷ []) place ≡ (is_in_some spans place || covers place span)
-in_some-append spans span place = list_any-append (covers place) spans (span ∷ []) ∙ ap (λ b. is_in_some spans place || b) (or_false (covers place span))
+in_some-append : (spans : List Span) (span : Span) (place : ℕ)
+    → is_in_some (spans ++ span ∷ []) place ≡ (is_in_some spans place || covers place span)
+in_some-append spans span place = list_any-append (covers place) spans (span ∷ [])
+    ∙ ap (λ b. is_in_some spans place || b) (or_false (covers place span))
 
 -- bytes that have the same length and the same byte at each place are the same
-pub same_bytes : (xs ys : List ℕ) → length xs ≡ length ys → ((i : ℕ) → i < length ys → get_or xs i 0 ≡ get_or ys i 0) → xs ≡ ys
+pub same_bytes : (xs ys : List ℕ) → length xs ≡ length ys
+    → ((i : ℕ) → i < length ys → get_or xs i 0 ≡ get_or ys i 0) → xs ≡ ys
 same_bytes xs ys same each =
-    fill_by_all (λ i. get_or ys i 0) xs (length ys) 0 same each ∙ sym (fill_by_all (λ i. get_or ys i 0) ys (length ys) 0 refl (λ i lt. refl))
+    fill_by_all (λ i. get_or ys i 0) xs (length ys) 0 same each
+    ∙ sym (fill_by_all (λ i. get_or ys i 0) ys (length ys) 0 refl (λ i lt. refl))
 
 -- all writes may be lost
 pub torn_refl : (spans : List Span) (bytes : List ℕ) → Torn spans bytes bytes
-torn_refl spans bytes = record { no_shorter = omega arith; no_longer = grows (length bytes) spans; same = λ i lt out. refl }
+torn_refl spans bytes = record {
+  no_shorter = omega arith;
+  no_longer = grows (length bytes) spans;
+  same = λ i lt out. refl;
+}
 
 -- a further write
-pub torn_then : (spans : List Span) (span : Span) (a b c : List ℕ) → Torn spans a b → Torn (span ∷ []) b c → Torn (spans ++ span ∷ []) a c
+pub torn_then : (spans : List Span) (span : Span) (a b c : List ℕ) → Torn spans a b → Torn (span ∷ []) b c
+    → Torn (spans ++ span ∷ []) a c
 torn_then spans span a b c first second = record {
   no_shorter = omega (arith, first.no_shorter, second.no_shorter);
   no_longer = omega (arith, first.no_longer, second.no_longer, length_after-append (length a) spans span);
   same = λ place lt out.
       let split : (is_in_some spans place || covers place span) ≡ false = sym (in_some-append spans span place) ∙ out in
-      let out_of_last = or_none (covers place span) false (none_right (is_in_some spans place) (covers place span) split) refl in
+      let out_of_last =
+      or_none (covers place span) false (none_right (is_in_some spans place) (covers place span) split) refl in
       second.same place (omega (arith, lt, first.no_shorter)) out_of_last
       ∙ first.same place lt (none_left (is_in_some spans place) (covers place span) split);
 }
@@ -93,7 +103,8 @@ module _ (spans : List Span) (span : Span) (a c : List ℕ) (torn : Torn (spans 
   at_place place lt = get_or-map-range_with_len byte 0 size place place 0 lt (omega arith)
 
   kept : (place : ℕ) → place < length a → is_in_some spans place ≡ false → byte place ≡ get_or a place 0
-  kept place lt out = pick _ _ _ _ (λ holds. refl) (λ fails. absurd (neither _ _ fails (is_less place (length a) lt) out))
+  kept place lt out =
+      pick _ _ _ _ (λ holds. refl) (λ fails. absurd (neither _ _ fails (is_less place (length a) lt) out))
 
   last : (place : ℕ) → covers place span ≡ false → get_or c place 0 ≡ byte place
   last place out =
@@ -115,12 +126,14 @@ module _ (spans : List Span) (span : Span) (a c : List ℕ) (torn : Torn (spans 
     record {
       no_shorter = omega (arith, long, torn.no_shorter, grows (length a) spans);
       no_longer = omega (arith, long);
-      same = λ place lt out. at_place place (omega (arith, lt, torn.no_shorter, grows (length a) spans)) ∙ kept place lt out;
+      same = λ place lt out. at_place place (omega (arith, lt, torn.no_shorter, grows (length a) spans))
+          ∙ kept place lt out;
     },
     record {
       no_shorter = omega (arith, long);
       no_longer = omega (arith, long, size_fits);
-      same = λ place lt out. last place (none_left (covers place span) false out) ∙ sym (at_place place (omega (arith, lt, long)));
+      same = λ place lt out. last place (none_left (covers place span) false out)
+          ∙ sym (at_place place (omega (arith, lt, long)));
     },
   )
 
@@ -129,25 +142,28 @@ pub torn_more : (spans : List Span) (span : Span) (a b : List ℕ) → Torn span
 torn_more spans span a b torn = torn_then spans span a b b torn (torn_refl (span ∷ []) b)
 
 -- a byte that may be any is changed
-pub torn_set : (spans : List Span) (a b : List ℕ) (place x : ℕ) → Torn spans a b → (place < length a → is_in_some spans place ≡ true)
-    → Torn spans a (set b place x)
+pub torn_set : (spans : List Span) (a b : List ℕ) (place x : ℕ) → Torn spans a b
+    → (place < length a → is_in_some spans place ≡ true) → Torn spans a (set b place x)
 torn_set spans a b place x torn free = record {
   no_shorter = omega (arith, length-set b place x, torn.no_shorter);
   no_longer = omega (arith, length-set b place x, torn.no_longer);
   same = λ other lt out.
-      get_or-set_other b place other x 0 (λ e. let in_one = subst (λ p. p < length a → is_in_some spans p ≡ true) (sym e) free lt in absurd cc)
+      get_or-set_other b place other x 0
+      (λ e. let in_one = subst (λ p. p < length a → is_in_some spans p ≡ true) (sym e) free lt in absurd cc)
       ∙ torn.same other lt out;
 }
 
 -- the end is cut off, up to what stood at the sync
-pub torn_cut : (spans : List Span) (a b : List ℕ) (count : ℕ) → Torn spans a b → length a ≤ count → Torn spans a (take count b)
+pub torn_cut : (spans : List Span) (a b : List ℕ) (count : ℕ) → Torn spans a b → length a ≤ count
+    → Torn spans a (take count b)
 torn_cut spans a b count torn fits = record {
   no_shorter = omega (arith, length-take count b, torn.no_shorter);
   no_longer = omega (arith, length-take count b, torn.no_longer);
   same = λ place lt out. get_or-take count b place 0 (omega (arith, lt, fits)) ∙ torn.same place lt out;
 }
 
-outside : (at count place : ℕ) → covers place (record { at = at; count = count }) ≡ false → (place < at) ⊎ (at + count ≤ place)
+outside : (at count place : ℕ) → covers place (record { at = at; count = count }) ≡ false
+    → (place < at) ⊎ (at + count ≤ place)
 outside at count place out = grind (arith, nat_tests)
 
 module _ (at count : ℕ) (written bytes : List ℕ) (within : at ≤ length bytes) (fits : length written ≤ count) where
@@ -165,13 +181,16 @@ module _ (at count : ℕ) (written bytes : List ℕ) (within : at ≤ length byt
       let parts = length-append (take at bytes ++ written) (drop (at + length written) bytes) in
       omega (arith, within, put_long, back_long, parts)
 
-  elsewhere : (place : ℕ) → place < length bytes → (place < at) ⊎ (at + count ≤ place) → get_or (overwritten at written bytes) place 0 ≡ get_or bytes place 0
+  elsewhere : (place : ℕ) → place < length bytes → (place < at) ⊎ (at + count ≤ place)
+      → get_or (overwritten at written bytes) place 0 ≡ get_or bytes place 0
   elsewhere place lt (inl left) =
-      get_or_append_left (take at bytes ++ written) (drop (at + length written) bytes) 0 place (omega (arith, left, put_long))
+      get_or_append_left (take at bytes ++ written) (drop (at + length written) bytes) 0 place
+      (omega (arith, left, put_long))
       ∙ get_or_append_left (take at bytes) written 0 place (omega (arith, left, front_long))
       ∙ get_or-take at bytes place 0 left
   elsewhere place lt (inr right) =
-      get_or-append_right (take at bytes ++ written) (drop (at + length written) bytes) (at + length written) place 0 put_long (omega (arith, right, fits))
+      get_or-append_right (take at bytes ++ written) (drop (at + length written) bytes)
+      (at + length written) place 0 put_long (omega (arith, right, fits))
       ∙ get_or-drop (at + length written) bytes (place - (at + length written)) 0
       ∙ ap (λ (k : ℕ). get_or bytes k 0) (omega (arith, right, fits))
 

@@ -1,4 +1,5 @@
--- What the calls of a disk do to its bytes, to what a crash may leave, and to what a crash since a time might have left.
+-- What the calls of a disk do to its bytes, to what a crash may leave, and to what a crash since a time might have
+-- left.
 use Rattle.std.specs.Prelude.{◌≡◌, ◌⊎◌, ℕ, ◌+◌, ◌-◌, ◌^◌, ◌≤◌, List, [], ◌∷◌, ◌++◌, length, take, drop, Option, Some, None, ⊤}
 use Rattle.std.specs.Option.{option_map}
 use Rattle.sz_disk.specs.declared.span.Span.{Span}
@@ -20,18 +21,23 @@ IsTorn span (Some old) (Some new) = Torn (span ∷ []) old new
 
 -- a crash may leave what it might have left before, torn in this span
 abbrev pub MayTear : Span → Images → Images → Type 0
-MayTear span old new = (image : List ℕ) → MayBe new image → (before : List ℕ) × MayBe old before × Torn (span ∷ []) before image
+MayTear span old new = (image : List ℕ) → MayBe new image
+    → (before : List ℕ) × MayBe old before × Torn (span ∷ []) before image
 
 -- a crash may leave nothing else than before
 abbrev pub NoMore : Images → Images → Type 0
 NoMore old new = (image : List ℕ) → MayBe new image → MayBe old image
 
--- Time goes on: a crash since a time that was there before might have left what it might have left before, and what it may
--- leave now, and nothing else. What is told stays told. The count of faults doesn't fall; where it stands at 2^64 - 1, it stays.
-pub record GoesOn {D : Type 0} (may_leave : D → Images) (time : D → ℕ) (left_since : D → ℕ → Images) (faults : D → ℕ) (old new : D) : Type 0 where
+-- Time goes on: a crash since a time that was there before might have left what it might have left before, and what
+-- it may leave now, and nothing else. What is told stays told. The count of faults doesn't fall; where it stands at
+-- 2^64 - 1, it stays.
+pub record GoesOn {D : Type 0} (may_leave : D → Images) (time : D → ℕ) (left_since : D → ℕ → Images) (faults : D → ℕ)
+    (old new : D) : Type 0 where
   pub later : time old ≤ time new
-  pub nothing_else : (t : ℕ) (image : List ℕ) → t ≤ time old → MayBe (left_since new t) image → MayBe (left_since old t) image ⊎ MayBe (may_leave new) image
-  pub nothing_lost : (t : ℕ) (image : List ℕ) → t ≤ time old → MayBe (left_since old t) image → MayBe (left_since new t) image
+  pub nothing_else : (t : ℕ) (image : List ℕ) → t ≤ time old → MayBe (left_since new t) image
+      → MayBe (left_since old t) image ⊎ MayBe (may_leave new) image
+  pub nothing_lost : (t : ℕ) (image : List ℕ) → t ≤ time old → MayBe (left_since old t) image
+      → MayBe (left_since new t) image
   pub told_now : are_told (may_leave new) ≡ are_told (may_leave old)
   pub told_since : (t : ℕ) → are_told (left_since new t) ≡ are_told (left_since old t)
   pub faults_later : faults old ≤ faults new

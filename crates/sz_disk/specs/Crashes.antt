@@ -16,12 +16,13 @@ abbrev pub length_after : ℕ → List Span → ℕ
 length_after count [] = count
 length_after count (span ∷ spans) = length_after (max count (span.at + span.count)) spans
 
--- What a crash may leave of the bytes that stood at the last sync, where these spans were written since: any bytes in each
--- span and past the old end, any length from the old one to the new one, and all other bytes as they were.
+-- What a crash may leave of the bytes that stood at the last sync, where these spans were written since: any bytes in
+-- each span and past the old end, any length from the old one to the new one, and all other bytes as they were.
 pub record Torn (spans : List Span) (synced image : List ℕ) : Type 0 where
   pub no_shorter : length synced ≤ length image
   pub no_longer : length image ≤ length_after (length synced) spans
-  pub same : (place : ℕ) → place < length synced → is_in_some spans place ≡ false → slice_index image place ≡ slice_index synced place
+  pub same : (place : ℕ) → place < length synced → is_in_some spans place ≡ false
+      → slice_index image place ≡ slice_index synced place
 
 -- the images that a crash may leave, where they are told
 pub data Images : Type 1 where

@@ -60,7 +60,8 @@ abbrev pub has_failed : Result ⊤ OutsideError → Bool
 has_failed (Err Failed) = true
 has_failed result = false
 
--- a disk that nobody called: it holds these bytes, a crash leaves them all, and it has this list of calls that are to fail
+-- a disk that nobody called: it holds these bytes, a crash leaves them all, and it has this list of calls that are to
+-- fail
 pub record IsNewDisk (disk : MemDisk) (bytes fails : List ℕ) : Type 0 where
   pub same_bytes : disk_bytes disk ≡ bytes
   pub no_write : writes_since disk ≡ record { synced = bytes; spans = [] }
@@ -81,4 +82,5 @@ pub record WritesSpan (old new : MemDisk) (span : Span) : Type 0 where
 
 -- time goes on, by the meanings that the disk tells
 abbrev pub DiskGoesOn : MemDisk → MemDisk → Type 0
-DiskGoesOn old new = GoesOn (λ disk. told (DiskLeaves disk)) disk_time (λ disk t. told (DiskLeft disk t)) disk_faults old new
+DiskGoesOn old new =
+    GoesOn (λ disk. told (DiskLeaves disk)) disk_time (λ disk t. told (DiskLeft disk t)) disk_faults old new

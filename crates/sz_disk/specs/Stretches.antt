@@ -33,7 +33,8 @@ abbrev pub writes_now : Bool → List ℕ → Writes → Writes
 writes_now true bytes last = record { synced = bytes; spans = [] }
 writes_now false bytes last = last
 
--- the stretches that a sync has ended, the first of them first: also the last one, where nothing was written since a sync
+-- the stretches that a sync has ended, the first of them first: also the last one, where nothing was written since a
+-- sync
 abbrev pub with_last : Bool → List Writes → Writes → List Writes
 with_last true ended last = ended ++ last ∷ []
 with_last false ended last = ended
@@ -67,7 +68,8 @@ no_writes bytes = record { synced = bytes; spans = [] }
 -- A sync: there are no writes since, and the stretch at hand has come to its end, unless it had no write.
 pub record Syncs (old new : Record) (bytes : List ℕ) : Type 0 where
   pub none_since : at_hand new bytes ≡ no_writes bytes
-  pub ends : ((ended_by new ≡ ended_by old) × (at_hand old bytes ≡ no_writes bytes)) ⊎ (ended_by new ≡ ended_by old ++ at_hand old bytes ∷ [])
+  pub ends : ((ended_by new ≡ ended_by old) × (at_hand old bytes ≡ no_writes bytes))
+      ⊎ (ended_by new ≡ ended_by old ++ at_hand old bytes ∷ [])
 
 none_left : (ended : List Writes) (image : List ℕ) → MightHaveLeft (drop (length ended) ended) image → ⊥
 none_left [] image none = none

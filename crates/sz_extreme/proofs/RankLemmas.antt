@@ -30,9 +30,12 @@ rank_ties r s tied =
 
 -- numbers turned round compare the other way round
 turned_found : (m n : ℤ) (o : Ordering) → o ≡ int_cmp m n → o ≡ int_cmp (negsuc 0 -ℤ n) (negsuc 0 -ℤ m)
-turned_found m n Less is = int_cmp_is (negsuc 0 -ℤ n) (negsuc 0 -ℤ m) Less (let less = int_ranked m n Less is in omega (arith, ints, less))
-turned_found m n Equal is = int_cmp_is (negsuc 0 -ℤ n) (negsuc 0 -ℤ m) Equal (λ i. negsuc 0 -ℤ sym (int_ranked m n Equal is) i)
-turned_found m n Greater is = int_cmp_is (negsuc 0 -ℤ n) (negsuc 0 -ℤ m) Greater (let more = int_ranked m n Greater is in omega (arith, ints, more))
+turned_found m n Less is =
+    int_cmp_is (negsuc 0 -ℤ n) (negsuc 0 -ℤ m) Less (let less = int_ranked m n Less is in omega (arith, ints, less))
+turned_found m n Equal is =
+    int_cmp_is (negsuc 0 -ℤ n) (negsuc 0 -ℤ m) Equal (λ i. negsuc 0 -ℤ sym (int_ranked m n Equal is) i)
+turned_found m n Greater is = int_cmp_is (negsuc 0 -ℤ n) (negsuc 0 -ℤ m) Greater
+    (let more = int_ranked m n Greater is in omega (arith, ints, more))
 
 turned_compare : (m n : ℤ) → int_cmp (negsuc 0 -ℤ n) (negsuc 0 -ℤ m) ≡ int_cmp m n
 turned_compare m n = sym (turned_found m n (int_cmp m n) refl)
@@ -41,13 +44,17 @@ greatest_by_rank : on (emit_of Maximum) greatest_first ≡ by_rank
 greatest_by_rank = λ i r s. ordering_then (turned_compare r.0 s.0 i) (compare r.1 s.1)
 
 -- emits in order are those of the ranks in order
-pub greatest_in_order : (rs : List Ranked) → sorted greatest_first (map (emit_of Maximum) rs) ≡ map (emit_of Maximum) (sorted by_rank rs)
-greatest_in_order rs = sorted_mapped greatest_first (emit_of Maximum) rs ∙ ap (λ cmp. map (emit_of Maximum) (sorted cmp rs)) greatest_by_rank
+pub greatest_in_order : (rs : List Ranked)
+    → sorted greatest_first (map (emit_of Maximum) rs) ≡ map (emit_of Maximum) (sorted by_rank rs)
+greatest_in_order rs = sorted_mapped greatest_first (emit_of Maximum) rs
+    ∙ ap (λ cmp. map (emit_of Maximum) (sorted cmp rs)) greatest_by_rank
 
-pub least_in_order : (rs : List Ranked) → sorted least_first (map (emit_of Minimum) rs) ≡ map (emit_of Minimum) (sorted by_rank rs)
+pub least_in_order : (rs : List Ranked)
+    → sorted least_first (map (emit_of Minimum) rs) ≡ map (emit_of Minimum) (sorted by_rank rs)
 least_in_order rs = sorted_mapped least_first (emit_of Minimum) rs
 
-module _ {X : Type 0} {cmp : X → X → Ordering} (total : IsTotalOrder cmp) (same : (x y : X) → cmp x y ≡ Equal → x ≡ y) where
+module _ {X : Type 0} {cmp : X → X → Ordering} (total : IsTotalOrder cmp)
+    (same : (x y : X) → cmp x y ≡ Equal → x ≡ y) where
   -- the element isn't less than any of these
   abbrev pub IsWorst : X → List X → Type 0
   IsWorst worst xs = AllByRecursion (λ y. is_lt (cmp worst y) ≡ false) xs
@@ -66,30 +73,39 @@ module _ {X : Type 0} {cmp : X → X → Ordering} (total : IsTotalOrder cmp) (s
   goes_last worst [] all up = refl
   goes_last worst (y ∷ ys) all up = by_found (cmp worst y) refl (goes_last worst ys all.1 up.1)
     where
-      by_found : (found : Ordering) → cmp worst y ≡ found → inserted cmp worst ys ≡ ys ++ worst ∷ [] → inserted cmp worst (y ∷ ys) ≡ (y ∷ ys) ++ worst ∷ []
+      by_found : (found : Ordering) → cmp worst y ≡ found → inserted cmp worst ys ≡ ys ++ worst ∷ []
+          → inserted cmp worst (y ∷ ys) ≡ (y ∷ ys) ++ worst ∷ []
       by_found Less is after = absurd (true≢false (sym (ap is_lt is) ∙ all.0))
-      by_found Greater is after = ap (λ o. cond (is_gt o) (y ∷ inserted cmp worst ys) (worst ∷ y ∷ ys)) is ∙ ap (λ l. y ∷ l) after
+      by_found Greater is after = ap (λ o. cond (is_gt o) (y ∷ inserted cmp worst ys) (worst ∷ y ∷ ys)) is
+          ∙ ap (λ l. y ∷ l) after
       by_found Equal is after =
           let twin = same worst y is in
-          let front = in_front worst ys (subst (λ z. AllByRecursion (λ v. is_gt (cmp z v) ≡ false) ys) (sym twin) up.0) in
-          ap (λ o. cond (is_gt o) (y ∷ inserted cmp worst ys) (worst ∷ y ∷ ys)) is ∙ (λ i. twin i ∷ sym twin i ∷ ys) ∙ ap (λ l. y ∷ l) (sym front ∙ after)
+          let front =
+          in_front worst ys (subst (λ z. AllByRecursion (λ v. is_gt (cmp z v) ≡ false) ys) (sym twin) up.0) in
+          ap (λ o. cond (is_gt o) (y ∷ inserted cmp worst ys) (worst ∷ y ∷ ys)) is ∙ (λ i. twin i ∷ sym twin i ∷ ys)
+          ∙ ap (λ l. y ∷ l) (sym front ∙ after)
 
   -- the first n of one more than n are those without the worst
-  pub worst_left_out : (n : ℕ) (xs : List X) (worst : X) → n ≤ length xs → IsWorst worst xs → take n (sorted cmp (worst ∷ xs)) ≡ take n (sorted cmp xs)
+  pub worst_left_out : (n : ℕ) (xs : List X) (worst : X) → n ≤ length xs → IsWorst worst xs
+      → take n (sorted cmp (worst ∷ xs)) ≡ take n (sorted cmp xs)
   worst_left_out n xs worst long all =
-      ap (take n) (goes_last worst (sorted cmp xs) (all_sorted (λ y. is_lt (cmp worst y) ≡ false) xs all) (sorted_ascends total xs))
-      ∙ take-append-le n (sorted cmp xs) (worst ∷ []) (omega (arith, long, length_permutation xs (sorted cmp xs) (sorted_is_permutation total xs)))
+      ap (take n) (goes_last worst (sorted cmp xs) (all_sorted (λ y. is_lt (cmp worst y) ≡ false) xs all)
+      (sorted_ascends total xs)) ∙ take-append-le n (sorted cmp xs) (worst ∷ [])
+      (omega (arith, long, length_permutation xs (sorted cmp xs) (sorted_is_permutation total xs)))
 
   -- what isn't less than the worst isn't less than any
   pub worse_than_worst : (x worst : X) (ys : List X) → is_lt (cmp x worst) ≡ false → IsWorst worst ys → IsWorst x ys
   worse_than_worst x worst [] h all = tt
-  worse_than_worst x worst (y ∷ ys) h all = (by_found (cmp x y) (cmp worst y) refl refl all.0, worse_than_worst x worst ys h all.1)
+  worse_than_worst x worst (y ∷ ys) h all =
+      (by_found (cmp x y) (cmp worst y) refl refl all.0, worse_than_worst x worst ys h all.1)
     where
-      by_found : (a b : Ordering) → cmp x y ≡ a → cmp worst y ≡ b → is_lt (cmp worst y) ≡ false → is_lt (cmp x y) ≡ false
+      by_found : (a b : Ordering) → cmp x y ≡ a → cmp worst y ≡ b → is_lt (cmp worst y) ≡ false
+          → is_lt (cmp x y) ≡ false
       by_found Equal b is other low = ap is_lt is
       by_found Greater b is other low = ap is_lt is
       by_found Less Less is other low = absurd (true≢false (sym (ap is_lt other) ∙ low))
-      by_found Less Equal is other low = absurd (true≢false (sym (ap is_lt (alike_right total worst y x other ∙ is)) ∙ h))
+      by_found Less Equal is other low =
+          absurd (true≢false (sym (ap is_lt (alike_right total worst y x other ∙ is)) ∙ h))
       by_found Less Greater is other low =
           let back : cmp y worst ≡ Less = total.antisymm y worst ∙ ap ordering_reverse other in
           absurd (true≢false (sym (ap is_lt (total.trans x y worst is back)) ∙ h))

@@ -4,8 +4,8 @@ use Rattle.sz_types.specs.Tables.{Declaration}
 use Rattle.sz_tabs.specs.Data.{Weighted, RowDatum}
 use Rattle.sz_tabs.specs.Rows.{rows_of}
 
--- a table's declaration, the number of the emits to it under one index list, those of them that are kept, in any order, and for how
--- many there is room
+-- a table's declaration, the number of the emits to it under one index list, those of them that are kept, in any
+-- order, and for how many there is room
 pub record Extremes : Type 0 where
   pub table : Declaration
   pub count : ℕ

@@ -11,7 +11,8 @@ use Rattle.sz_extreme.specs.Ranks.{rank_order}
 abbrev pub IsExtreme : TableKind → Type 0
 IsExtreme kind = (kind ≡ Maximum) ⊎ (kind ≡ Minimum)
 
--- the table is one of extremes with weights, the pairs are a heap of no more than its limit, and there is the room that was made
+-- the table is one of extremes with weights, the pairs are a heap of no more than its limit, and there is the room
+-- that was made
 pub record IsKept (table : Declaration) (pairs : List (ℤ × Value)) (room capacity : ℕ) : Type 0 where
   pub kind : IsExtreme table.kind
   pub weights : is_some table.weight ≡ true

@@ -43,7 +43,8 @@ impl<'a> Model for Extreme<'a> {
     ghost use Rattle.sz_extreme.specs.Ranks.{emit_of, seen_rank};
     ghost use Rattle.sz_extreme.specs.Kept.{IsKept};
 
-    ghost view = { λ e. record { table = seen_table e.table.now; count = e.count; kept = map (emit_of (seen_table e.table.now).kind) (map seen_rank (heap_items e.heap)); room = e.room } };
+    ghost view = { λ e.
+        record { table = seen_table e.table.now; count = e.count; kept = map (emit_of (seen_table e.table.now).kind) (map seen_rank (heap_items e.heap)); room = e.room } };
 
     ghost invariant = { λ e. IsKept (seen_table e.table.now) (heap_items e.heap) e.room (heap_capacity e.heap) };
 }

@@ -4,7 +4,8 @@ use Rattle.sz_feed.specs.Feed.{framed, next, record_of, records_after}
 
 -- the record of the next three draws, and then the records after them
 pub one_more : (x n i : ℕ) → i < n
-    → records_after x (n - i) ≡ framed (record_of (next x) (next (next x)) (next (next (next x)))) ++ records_after (next (next (next x))) (n - (i + 1))
+    → records_after x (n - i) ≡ framed (record_of (next x) (next (next x)) (next (next (next x))))
+    ++ records_after (next (next (next x))) (n - (i + 1))
 one_more x n i below = let e : n - i ≡ suc (n - (i + 1)) = omega (arith, below) in ap (records_after x) e
 
 -- what was made so far and is to come stays the file when a record is appended

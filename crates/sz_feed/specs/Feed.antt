@@ -16,7 +16,8 @@ country n =
     if nat_eq n 1 then codes "fr" else
     if nat_eq n 2 then codes "jp" else codes "us"
 
--- the record of three draws: one in seven is no message, the others have a country, an hour and a number of microseconds
+-- the record of three draws: one in seven is no message, the others have a country, an hour and a number of
+-- microseconds
 abbrev pub record_of : (a b c : ℕ) → List ℕ
 record_of a b c =
     if nat_eq (a % 7) 0 then 8 ∷ []

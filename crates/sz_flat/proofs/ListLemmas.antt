@@ -29,7 +29,8 @@ values_are flat kept ds h = ∥∥₁_elim kept.1 (Coded-set parts_code kept.0 d
 -- the same bytes have the same values
 pub copy_is : (flat copy : List ℕ) (kept : Spelled flat) (other : Spelled copy) → copy ≡ flat → other.0 ≡ kept.0
 copy_is flat copy kept other same =
-    ∥∥₁_elim kept.1 (Coded-set parts_code other.0 kept.0) (λ k. values_are copy other kept.0 (subst (λ f. SpellsAll f kept.0) (sym same) k))
+    ∥∥₁_elim kept.1 (Coded-set parts_code other.0 kept.0)
+    (λ k. values_are copy other kept.0 (subst (λ f. SpellsAll f kept.0) (sym same) k))
 
 -- the bytes are the spellings of the values
 pub bytes_are : (flat : List ℕ) (kept : Spelled flat) → flat ≡ spelled_parts (data_of kept.0)
@@ -50,10 +51,12 @@ empty_alike flat kept = ap (λ f. length f == 0) (bytes_are flat kept) ∙ by ke
     by [] = refl
     by (d ∷ ds) = more (spelling d) (some_bytes d)
       where
-        more : (front : List ℕ) → 1 ≤ length front → (length (front ++ spelled_parts (data_of ds)) == 0) ≡ (suc (length ds) == 0)
+        more : (front : List ℕ) → 1 ≤ length front
+            → (length (front ++ spelled_parts (data_of ds)) == 0) ≡ (suc (length ds) == 0)
         more front some =
             let long = length-append front (spelled_parts (data_of ds)) in
-            not_none (length (front ++ spelled_parts (data_of ds))) (omega (arith, long, some)) ∙ sym (not_none (suc (length ds)) (omega arith))
+            not_none (length (front ++ spelled_parts (data_of ds))) (omega (arith, long, some))
+            ∙ sym (not_none (suc (length ds)) (omega arith))
 
 -- the bytes are equal just where the values are
 pub same_bytes : (a b : List ℕ) (x : Spelled a) (y : Spelled b) → pointwise nat_eq a b ≡ same_values x.0 y.0
@@ -66,18 +69,20 @@ same_bytes a b x y = by (pointwise nat_eq a b) refl (same_values x.0 y.0) refl
         let one = copy_is b a y x ((bytes_decides a b).0 s) in
         absurd (true≢false (sym (same_values_equiv.refl y.0) ∙ ap (λ z. same_values z y.0) (sym one) ∙ t))
     by false s true t =
-        let one = bytes_are a x ∙ ap (λ z. spelled_parts (data_of z)) (same_values_are_one x.0 y.0 t) ∙ sym (bytes_are b y) in
+        let one = bytes_are a x ∙ ap (λ z. spelled_parts (data_of z)) (same_values_are_one x.0 y.0 t)
+        ∙ sym (bytes_are b y) in
         absurd (true≢false (sym ((bytes_decides a b).1 one) ∙ s))
 
 -- what was appended to no bytes
-pub all_spelled : (count : ℕ) (old new : List ℕ) (made ds : List Datum) → old ≡ [] → made ≡ ds → Adds (all_of values count) old new made → SpellsAll new ds
+pub all_spelled : (count : ℕ) (old new : List ℕ) (made ds : List Datum) → old ≡ [] → made ≡ ds
+    → Adds (all_of values count) old new made → SpellsAll new ds
 all_spelled count old new made ds none same h =
     subst (SpellsAll new) same
     (record { spelled = parts_have made h.has.1; is = h.is ∙ (λ i. none i ++ parts_spelled made i) })
 
 -- bytes that were spelled anew, or are none
-pub spelled_anyway : {T E : Type 0} (r : Result T E) (flat : List ℕ) (ds : List Datum) → OnOk r (SpellsAll flat ds) → OnErr r (flat ≡ [])
-    → Spelled flat
+pub spelled_anyway : {T E : Type 0} (r : Result T E) (flat : List ℕ) (ds : List Datum) → OnOk r (SpellsAll flat ds)
+    → OnErr r (flat ≡ []) → Spelled flat
 spelled_anyway (Ok x) flat ds h none = (ds, ∣ h ∣₁)
 spelled_anyway (Err e) flat ds h none = ([], ∣ no_values flat none ∣₁)
 
@@ -93,21 +98,28 @@ all_read flat rest done none h = record {
 }
 
 -- what follows values that were read is spelled by the others
-nothing_after : (done : List Datum) (rest : List ℕ) → HaveSpellings (data_of done) → Lacks values rest → 1 ≤ length rest → (ds : List Datum)
+nothing_after : (done : List Datum) (rest : List ℕ) → HaveSpellings (data_of done) → Lacks values rest
+    → 1 ≤ length rest → (ds : List Datum)
     → HaveSpellings (data_of ds) → spelled_parts (data_of done) ++ rest ≡ spelled_parts (data_of ds) → ⊥
 nothing_after [] rest has lacks some [] k e = let long = ap length e in omega (arith, long, some)
 nothing_after [] rest has lacks some (d ∷ ds) k e = lacks d (spelled_parts (data_of ds)) (record { has = k.0; is = e })
 nothing_after (x ∷ xs) rest has lacks some [] k e =
     let long = ap length e in let front = some_bytes x in
-    omega (arith, long, front, length-append (spelling x ++ spelled_parts (data_of xs)) rest, length-append (spelling x) (spelled_parts (data_of xs)))
+    omega (
+      arith,
+      long,
+      front,
+      length-append (spelling x ++ spelled_parts (data_of xs)) rest,
+      length-append (spelling x) (spelled_parts (data_of xs)),
+    )
 nothing_after (x ∷ xs) rest has lacks some (d ∷ ds) k e =
     nothing_after xs rest has.1 lacks some ds k.1
     (one_spelling x d (spelled_parts (data_of xs) ++ rest) (spelled_parts (data_of ds)) has.0 k.0
     (sym (append_assoc (spelling x) (spelled_parts (data_of xs)) rest) ∙ e)).1
 
 -- where no value stands after those that were read, no list is spelled
-pub none_read : (flat rest : List ℕ) (done : List Datum) (e : FlatError) → IsReadUpTo flat done rest → 1 ≤ length rest → Stops values rest e
-    → e ≡ NotFlat → SpellNone flat
+pub none_read : (flat rest : List ℕ) (done : List Datum) (e : FlatError) → IsReadUpTo flat done rest → 1 ≤ length rest
+    → Stops values rest e → e ≡ NotFlat → SpellNone flat
 none_read flat rest done NotFlat h some stop is = λ ds k.
     nothing_after done rest (parts_have done h.1.has.1) stop some ds k.spelled
     (sym (h.1.is ∙ ap (λ l. l ++ rest) (parts_spelled done)) ∙ k.is)

@@ -25,10 +25,12 @@ abbrev Agree : ℕ → List ℕ → List ℕ → Type 0
 Agree zero s t = Unit {0}
 Agree (suc count) s t = Agree count s t × (slice_index s count ≡ slice_index t count)
 
-agree : (count : ℕ) (s t : List ℕ) → AreBytes s → AreBytes t → front_number count s ≡ front_number count t → Agree count s t
+agree : (count : ℕ) (s t : List ℕ) → AreBytes s → AreBytes t → front_number count s ≡ front_number count t
+    → Agree count s t
 agree zero s t h k e = tt
 agree (suc count) s t h k e =
-    let one = h count in let other = k count in (agree count s t h k (omega (arith, e, one, other)), omega (arith, e, one, other))
+    let one = h count in let other = k count in
+    (agree count s t h k (omega (arith, e, one, other)), omega (arith, e, one, other))
 
 first_agrees : (count : ℕ) (a b : ℕ) (s t : List ℕ) → Agree (suc count) (a ∷ s) (b ∷ t) → a ≡ b
 first_agrees zero a b s t h = h.1
@@ -39,7 +41,8 @@ others_agree zero a b s t h = tt
 others_agree (suc count) a b s t h = (others_agree count a b s t h.0, h.1)
 
 -- the first byte that differs decides
-decides : (count : ℕ) (s t : List ℕ) → Agree count s t → slice_index s count < slice_index t count → slice_cmp nat_cmp s t ≡ Less
+decides : (count : ℕ) (s t : List ℕ) → Agree count s t → slice_index s count < slice_index t count
+    → slice_cmp nat_cmp s t ≡ Less
 decides count [] [] h less = absurd (omega (arith, less))
 decides count [] (b ∷ t) h less = refl
 decides count (a ∷ s) [] h less = absurd (omega (arith, less))
@@ -49,20 +52,25 @@ decides (suc count) (a ∷ s) (b ∷ t) h less =
     ∙ decides count s t (others_agree count a b s t h) less
 
 -- where the numbers differ, so do the bytes: those in front, or else the one after them
-front_or_next : (count : ℕ) (s t : List ℕ) → AreBytes s → AreBytes t → front_number (suc count) s < front_number (suc count) t
-    → (front_number count s < front_number count t) ⊎ ((front_number count s ≡ front_number count t) × (slice_index s count < slice_index t count))
+front_or_next : (count : ℕ) (s t : List ℕ) → AreBytes s → AreBytes t
+    → front_number (suc count) s < front_number (suc count) t → (front_number count s < front_number count t)
+    ⊎ ((front_number count s ≡ front_number count t) × (slice_index s count < slice_index t count))
 front_or_next count s t h k less = by (cases_order (front_number count s) (front_number count t))
   where
-    by : (front_number count s ≡ front_number count t) ⊎ ((front_number count s < front_number count t) ⊎ (front_number count t < front_number count s))
-        → (front_number count s < front_number count t) ⊎ ((front_number count s ≡ front_number count t) × (slice_index s count < slice_index t count))
+    by : (front_number count s ≡ front_number count t)
+        ⊎ ((front_number count s < front_number count t) ⊎ (front_number count t < front_number count s))
+        → (front_number count s < front_number count t)
+        ⊎ ((front_number count s ≡ front_number count t) × (slice_index s count < slice_index t count))
     by (inl same) = inr (same, omega (arith, same, less))
     by (inr (inl lower)) = inl lower
     by (inr (inr higher)) = absurd (let one = h count in let other = k count in omega (arith, higher, less, one, other))
 
-lower_front : (count : ℕ) (s t : List ℕ) → AreBytes s → AreBytes t → front_number count s < front_number count t → slice_cmp nat_cmp s t ≡ Less
+lower_front : (count : ℕ) (s t : List ℕ) → AreBytes s → AreBytes t → front_number count s < front_number count t
+    → slice_cmp nat_cmp s t ≡ Less
 lower_front zero s t h k less = absurd (omega (arith, less))
 lower_front (suc count) s t h k less =
-    ⊎_elim (lower_front count s t h k) (λ next. decides count s t (agree count s t h k next.0) next.1) (front_or_next count s t h k less)
+    ⊎_elim (lower_front count s t h k) (λ next. decides count s t (agree count s t h k next.0) next.1)
+    (front_or_next count s t h k less)
 
 lower_number : (m n : ℤ) → near_number m < near_number n → int_cmp m n ≡ Less
 lower_number (pos m) (pos n) less = sym (int_cmp_is (pos m) (pos n) Less (omega (arith, ints, less)))
@@ -109,9 +117,11 @@ lower_value (bytes s) (bytes t) h k less = lower_front 8 s t h k (omega (arith, 
 lower_value (array ds) (array es) h k less = absurd (omega (arith, less))
 lower_value (tuple ds) (tuple es) h k less = absurd (omega (arith, less))
 lower_value (mapping ps) (mapping qs) h k less = absurd (omega (arith, less))
-lower_value d e h k less = sym (nat_cmp_is (kind d) (kind e) Less (let one = below d h in let other = below e k in omega (arith, less, one, other)))
+lower_value d e h k less = sym (nat_cmp_is (kind d) (kind e) Less
+    (let one = below d h in let other = below e k in omega (arith, less, one, other)))
 
-lower_list : (xs ys : List Datum) (rank other : ℕ) → Ranks xs rank → Ranks ys other → rank < other → slice_cmp compare xs ys ≡ Less
+lower_list : (xs ys : List Datum) (rank other : ℕ) → Ranks xs rank → Ranks ys other → rank < other
+    → slice_cmp compare xs ys ≡ Less
 lower_list [] [] rank other h k less = absurd (let one = h.is in let second = k.is in omega (arith, less, one, second))
 lower_list [] (y ∷ ys) rank other h k less = refl
 lower_list (x ∷ xs) [] rank other h k less = absurd (let second = k.is in omega (arith, less, second))
@@ -120,17 +130,19 @@ lower_list (x ∷ xs) (y ∷ ys) rank other h k less =
     (lower_value x y h.bytes k.bytes (let one = h.is in let second = k.is in omega (arith, less, one, second)))
 
 -- where ranks differ, the lists compare as they do
-pub ranks_decide : (xs ys : List Datum) (rank other : ℕ) → IsRank xs rank → IsRank ys other → (found : Ordering) → found ≡ nat_cmp rank other → found ≢ Equal
-    → found ≡ slice_cmp compare xs ys
+pub ranks_decide : (xs ys : List Datum) (rank other : ℕ) → IsRank xs rank → IsRank ys other → (found : Ordering)
+    → found ≡ nat_cmp rank other → found ≢ Equal → found ≡ slice_cmp compare xs ys
 ranks_decide xs ys rank other first second found is apart =
     let one_way = Ordering-set found (slice_cmp compare xs ys) in
     ∥∥₁_elim first one_way (λ h. ∥∥₁_elim second one_way (λ k. by found is apart h k))
   where
-    by : (o : Ordering) → o ≡ nat_cmp rank other → o ≢ Equal → Ranks xs rank → Ranks ys other → o ≡ slice_cmp compare xs ys
+    by : (o : Ordering) → o ≡ nat_cmp rank other → o ≢ Equal → Ranks xs rank → Ranks ys other
+        → o ≡ slice_cmp compare xs ys
     by Less e n h k = sym (lower_list xs ys rank other h k (ranked rank other Less e))
     by Equal e n h k = absurd (n refl)
     by Greater e n h k =
-        sym ((lists_total compare_total).antisymm xs ys ∙ ap ordering_reverse (lower_list ys xs other rank k h (ranked rank other Greater e)))
+        sym ((lists_total compare_total).antisymm xs ys
+        ∙ ap ordering_reverse (lower_list ys xs other rank k h (ranked rank other Greater e)))
 
 -- the values of each kind, after its byte
 module _ (flat : List ℕ) (rank : ℕ) where
@@ -146,12 +158,16 @@ module _ (flat : List ℕ) (rank : ℕ) where
   time_ranks f (time n) rest h = record { bytes = tt; is = f n rest (record { has = h.has; is = ap tail h.is }) }
   time_ranks f d rest h = absurd (let byte = ap head h.is in omega (arith, byte))
 
-  pub text_ranks : Front strings (λ s found. AreBytes s × (found ≡ near_string s)) flat rank → Front values RanksInKind (4 ∷ flat) rank
-  text_ranks f (str s) rest h = let found = f s rest (record { has = h.has.0; is = ap tail h.is }) in record { bytes = found.0; is = found.1 }
+  pub text_ranks : Front strings (λ s found. AreBytes s × (found ≡ near_string s)) flat rank
+      → Front values RanksInKind (4 ∷ flat) rank
+  text_ranks f (str s) rest h = let found = f s rest (record { has = h.has.0; is = ap tail h.is }) in
+      record { bytes = found.0; is = found.1 }
   text_ranks f d rest h = absurd (let byte = ap head h.is in omega (arith, byte))
 
-  pub bytes_rank : Front strings (λ s found. AreBytes s × (found ≡ near_string s)) flat rank → Front values RanksInKind (5 ∷ flat) rank
-  bytes_rank f (bytes s) rest h = let found = f s rest (record { has = h.has; is = ap tail h.is }) in record { bytes = found.0; is = found.1 }
+  pub bytes_rank : Front strings (λ s found. AreBytes s × (found ≡ near_string s)) flat rank
+      → Front values RanksInKind (5 ∷ flat) rank
+  bytes_rank f (bytes s) rest h = let found = f s rest (record { has = h.has; is = ap tail h.is }) in
+      record { bytes = found.0; is = found.1 }
   bytes_rank f d rest h = absurd (let byte = ap head h.is in omega (arith, byte))
 
 pub other_ranks : (byte : ℕ) (flat : List ℕ) → (1 ≤ byte → byte ≤ 5 → ⊥) → Front values RanksInKind (byte ∷ flat) 0
@@ -171,8 +187,8 @@ kind_byte (tuple ds) rest = (refl, omega arith)
 kind_byte (mapping es) rest = (refl, omega arith)
 
 -- the kind with what ranks in it
-pub front_ranks : (byte : ℕ) (flat : List ℕ) (low rank : ℕ) → Front values RanksInKind (byte ∷ flat) low → rank ≡ min byte 8 * 2 ^ 60 + low
-    → Front values (λ d. Ranks (d ∷ [])) (byte ∷ flat) rank
+pub front_ranks : (byte : ℕ) (flat : List ℕ) (low rank : ℕ) → Front values RanksInKind (byte ∷ flat) low
+    → rank ≡ min byte 8 * 2 ^ 60 + low → Front values (λ d. Ranks (d ∷ [])) (byte ∷ flat) rank
 front_ranks byte flat low rank f is d rest h =
     let found = f d rest h in
     let inside = found.is in
@@ -184,9 +200,12 @@ front_ranks byte flat low rank f is d rest h =
 pub none_ranks : (flat : List ℕ) → length flat < 1 → RanksAll flat 0
 none_ranks flat none [] h = record { bytes = tt; is = refl }
 none_ranks flat none (d ∷ ds) h =
-    absurd (let long = ap length h.is in let some = some_bytes d in omega (arith, long, none, some, length-append (spelling d) (spelled_parts (data_of ds))))
+    absurd (let long = ap length h.is in let some = some_bytes d in
+    omega (arith, long, none, some, length-append (spelling d) (spelled_parts (data_of ds))))
 
-pub all_rank : (byte : ℕ) (flat : List ℕ) (rank : ℕ) → Front values (λ d. Ranks (d ∷ [])) (byte ∷ flat) rank → RanksAll (byte ∷ flat) rank
+pub all_rank : (byte : ℕ) (flat : List ℕ) (rank : ℕ) → Front values (λ d. Ranks (d ∷ [])) (byte ∷ flat) rank
+    → RanksAll (byte ∷ flat) rank
 all_rank byte flat rank f [] h = absurd (let long = ap length h.is in omega (arith, long))
 all_rank byte flat rank f (d ∷ ds) h =
-    let found = f d (spelled_parts (data_of ds)) (record { has = h.spelled.0; is = h.is }) in record { bytes = found.bytes; is = found.is }
+    let found = f d (spelled_parts (data_of ds)) (record { has = h.spelled.0; is = h.is }) in
+    record { bytes = found.bytes; is = found.is }

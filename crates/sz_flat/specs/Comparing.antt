@@ -32,7 +32,8 @@ maps = record {
   spelled = λ es. length_bytes (length (pairs_of es)) ++ spelled_pairs es;
 }
 
--- of two that compare so and have these bytes after them, either these bytes were found, where the two are equal, or how they compare
+-- of two that compare so and have these bytes after them, either these bytes were found, where the two are equal, or
+-- how they compare
 abbrev pub Finds : Ordering → List ℕ → List ℕ → Result (Bor (List ℕ) × Bor (List ℕ)) Ordering → Type 0
 Finds order after behind (Ok rests) = (order ≡ Equal) × (rests.0.now ≡ after) × (rests.1.now ≡ behind)
 Finds order after behind (Err found) = (order ≡ found) × (found ≢ Equal)
@@ -41,10 +42,12 @@ Finds order after behind (Err found) = (order ≡ found) × (found ≢ Equal)
 abbrev pub ComparesBoth : {Y : Type 0} → Language Y → Language Y → (Y → Y → Ordering) → List ℕ → List ℕ
     → Result (Bor (List ℕ) × Bor (List ℕ)) Ordering → Type 0
 ComparesBoth {Y} language second cmp one other result =
-    (x y : Y) (after behind : List ℕ) → Stands language one x after → Stands second other y behind → Finds (cmp x y) after behind result
+    (x y : Y) (after behind : List ℕ) → Stands language one x after → Stands second other y behind
+    → Finds (cmp x y) after behind result
 
 -- the same with one language
-abbrev pub Compares : {Y : Type 0} → Language Y → (Y → Y → Ordering) → List ℕ → List ℕ → Result (Bor (List ℕ) × Bor (List ℕ)) Ordering → Type 0
+abbrev pub Compares : {Y : Type 0} → Language Y → (Y → Y → Ordering) → List ℕ → List ℕ
+    → Result (Bor (List ℕ) × Bor (List ℕ)) Ordering → Type 0
 Compares language cmp = ComparesBoth language language cmp
 
 -- the values that are spelled by the one, whichever they are, compare so with those that are spelled by the other

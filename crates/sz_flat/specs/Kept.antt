@@ -1,4 +1,5 @@
--- What the ghost members of a list that is kept flat rest on: bytes spell one list of values at most, and lists with the same values are one.
+-- What the ghost members of a list that is kept flat rest on: bytes spell one list of values at most, and lists with
+-- the same values are one.
 use Rattle.std.specs.Cmp.{IsPartialEquivalence, IsEquivalence, eq_by_cmp_equiv, partial_equiv_from_equiv, Equal-is}
 use Rattle.std.specs.Cmp.Lexicographic.{slice_cmp, lists_total}
 use Rattle.std.specs.Coded.{Coded-set}
@@ -30,9 +31,11 @@ some_bytes (mapping es) = omega arith
 same_fronts : (ds es : Data) → HaveSpellings ds → HaveSpellings es → spelled_parts ds ≡ spelled_parts es → ds ≡ es
 same_fronts no_data no_data h k e = refl
 same_fronts no_data (datum f fs) h k e =
-    absurd (let long = ap length e in let some = some_bytes f in omega (arith, long, some, length-append (spelling f) (spelled_parts fs)))
+    absurd (let long = ap length e in let some = some_bytes f in
+    omega (arith, long, some, length-append (spelling f) (spelled_parts fs)))
 same_fronts (datum d ds) no_data h k e =
-    absurd (let long = ap length e in let some = some_bytes d in omega (arith, long, some, length-append (spelling d) (spelled_parts ds)))
+    absurd (let long = ap length e in let some = some_bytes d in
+    omega (arith, long, some, length-append (spelling d) (spelled_parts ds)))
 same_fronts (datum d ds) (datum f fs) h k e =
     let front = one_spelling d f (spelled_parts ds) (spelled_parts fs) h.0 k.0 e in
     let later = same_fronts ds fs h.1 k.1 front.1 in
@@ -45,13 +48,15 @@ listed_again (d ∷ ds) = ap (λ l. d ∷ l) (listed_again ds)
 -- the values of two lists that the same bytes spell are the same
 pub one_list : (flat : List ℕ) (xs ys : List Datum) → SpellsAll flat xs → SpellsAll flat ys → xs ≡ ys
 one_list flat xs ys h k =
-    sym (listed_again xs) ∙ ap parts_of (same_fronts (data_of xs) (data_of ys) h.spelled k.spelled (sym h.is ∙ k.is)) ∙ listed_again ys
+    sym (listed_again xs) ∙ ap parts_of (same_fronts (data_of xs) (data_of ys) h.spelled k.spelled (sym h.is ∙ k.is))
+    ∙ listed_again ys
 
 -- bytes spell one list of values at most
 pub spelled_prop : (flat : List ℕ) → IsProp (Spelled flat)
 spelled_prop flat = λ u v.
     Σ_prop_path (λ values. ∥∥₁_prop)
-    (∥∥₁_elim u.1 (Coded-set parts_code u.0 v.0) (λ h. ∥∥₁_elim v.1 (Coded-set parts_code u.0 v.0) (λ k. one_list flat u.0 v.0 h k)))
+    (∥∥₁_elim u.1 (Coded-set parts_code u.0 v.0)
+    (λ h. ∥∥₁_elim v.1 (Coded-set parts_code u.0 v.0) (λ k. one_list flat u.0 v.0 h k)))
 
 both_equal : (a b : Ordering) → ordering_then a b ≡ Equal → (a ≡ Equal) × (b ≡ Equal)
 both_equal Less b tied = absurd (true≢false (sym (ap is_eq tied)))

@@ -1,4 +1,5 @@
--- The rank of a list of values: a number in 64 bits. Of two lists whose ranks differ, that with the lower one is the lesser.
+-- The rank of a list of values: a number in 64 bits. Of two lists whose ranks differ, that with the lower one is the
+-- lesser.
 use Rattle.std.specs.Prelude.{◌≡◌, ◌+◌, ◌*◌, ◌-◌, ◌/◌, ◌^◌, ◌<◌, ℕ, zero, suc, ℤ, pos, negsuc, min, if◌then◌else◌, List, [], ◌∷◌, slice_index}
 use Rattle.sz_value.specs.Data.{Datum, truth, int, time, str, bytes}
 use Rattle.sz_value.specs.Order.{kind}
@@ -10,7 +11,8 @@ abbrev pub front_number : ℕ → List ℕ → ℕ
 front_number zero s = 0
 front_number (suc count) s = 256 * front_number count s + slice_index s count
 
--- the place of a number among those from -2^59 to 2^59 - 1; one that is further from 0 has the place of the last on its side
+-- the place of a number among those from -2^59 to 2^59 - 1; one that is further from 0 has the place of the last on
+-- its side
 abbrev pub near_number : ℤ → ℕ
 near_number (pos n) = 2 ^ 59 + min n (2 ^ 59 - 1)
 near_number (negsuc n) = 2 ^ 59 - 1 - min n (2 ^ 59 - 1)
@@ -28,7 +30,8 @@ rank_in_kind (str s) = near_string s
 rank_in_kind (bytes s) = near_string s
 rank_in_kind _ = 0
 
--- the rank of a list: the kind of its first value in the 4 highest bits, counted from 1, and below its rank in this kind
+-- the rank of a list: the kind of its first value in the 4 highest bits, counted from 1, and below its rank in this
+-- kind
 abbrev pub rank_of : List Datum → ℕ
 rank_of [] = 0
 rank_of (d ∷ ds) = (kind d + 1) * 2 ^ 60 + rank_in_kind d

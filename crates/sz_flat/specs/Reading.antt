@@ -40,7 +40,10 @@ spelled_all spelled (y ∷ ys) = spelled y ++ spelled_all spelled ys
 
 -- so many of a language
 abbrev pub all_of : {Y : Type 0} → Language Y → ℕ → Language (List Y)
-all_of language count = record { Has = λ ys. (length ys ≡ count) × AllByRecursion language.Has ys; spelled = spelled_all language.spelled }
+all_of language count = record {
+  Has = λ ys. (length ys ≡ count) × AllByRecursion language.Has ys;
+  spelled = spelled_all language.spelled;
+}
 
 module _ {Y : Type 0} (language : Language Y) where
   -- this was appended

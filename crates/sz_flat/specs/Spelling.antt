@@ -66,7 +66,8 @@ abbrev mutual
   PairsHaveShortLengths (entry k v es) = HasShortLengths k × HasShortLengths v × PairsHaveShortLengths es
 
 abbrev mutual
-  -- the value can be spelled: its numbers have 64 bits, its lengths 32, its texts are UTF-8, and the keys of its maps rise
+  -- the value can be spelled: its numbers have 64 bits, its lengths 32, its texts are UTF-8, and the keys of its maps
+  -- rise
   pub HasSpelling : Datum → Type 0
   HasSpelling (truth b) = Unit {0}
   HasSpelling (int n) = FitsSigned w64 n

@@ -21,7 +21,7 @@ use Rattle.sz_types.specs.Seen.{seen as shape_of}
 use Rattle.sz_core.specs.Nodes.{Node, Form, nodes_of, pairings_of}
 use Rattle.sz_core.specs.declared.expr.CoreExpr.{CoreExpr}
 use Rattle.sz_core.specs.View.{node_of, form_of}
-use Rattle.sz_gen_expr.specs.Building.{with_constant, with_type, aimed, tables_made, Grows, Appends, AppendsLine, AppendsNode, AppendsClosed, AppendsList, LandsBy, Lands, Nothing}
+use Rattle.sz_gen_expr.specs.Building.{with_constant, with_type, aimed, tables_made, Grows, Appends, AppendsLine, AppendsNode, AppendsClosed, LandsBy, Lands, Nothing}
 
 pub begins_itself : {A : Type 0} (xs : List A) → BeginsWith xs xs
 begins_itself xs = ([], sym (append-nil xs))
@@ -40,7 +40,10 @@ grows_on {a} {b} {c} h k = record {
 
 -- tables that are the same
 pub grows_same : (a b : Tables) → b.constants ≡ a.constants → b.types ≡ a.types → Grows a b
-grows_same a b c t = record { constants = ([], c ∙ sym (append-nil a.constants)); types = ([], t ∙ sym (append-nil a.types)) }
+grows_same a b c t = record {
+  constants = ([], c ∙ sym (append-nil a.constants));
+  types = ([], t ∙ sym (append-nil a.types));
+}
 
 -- a line that was given its target
 pub landed_grows : {change : Instr → ℕ → Option Instr} {old new : Builder} {at : ℕ} → LandsBy change old new at
@@ -48,9 +51,9 @@ pub landed_grows : {change : Instr → ℕ → Option Instr} {old new : Builder}
 landed_grows {change} {old} {new} h = grows_same (tables_made old) (tables_made new) h.constants h.types
 
 -- one line
-pub pushed : (old new : Builder) (i : Instr) (charge : ℕ) (place : Place) → new.lines ≡ old.lines ++ line i charge place ∷ []
-    → new.functions ≡ old.functions → new.statics ≡ old.statics → new.constants ≡ old.constants → new.types ≡ old.types
-    → AppendsLine old new (λ tables. i) charge place Nothing
+pub pushed : (old new : Builder) (i : Instr) (charge : ℕ) (place : Place)
+    → new.lines ≡ old.lines ++ line i charge place ∷ [] → new.functions ≡ old.functions → new.statics ≡ old.statics
+    → new.constants ≡ old.constants → new.types ≡ old.types → AppendsLine old new (λ tables. i) charge place Nothing
 pushed old new i charge place lines functions statics constants types = record {
   grows = grows_same (tables_made old) (tables_made new) constants types;
   lines = λ tables grows. lines;
@@ -62,7 +65,8 @@ pushed old new i charge place lines functions statics constants types = record {
 -- one piece after another
 pub after : {old between new : Builder} {first second : Tables → ℕ → List Line} {names names2 : Tables → Type 0}
     → Appends old between first names → Appends between new second names2
-    → Appends old new (λ tables at. followed at (first tables at) (second tables)) (λ tables. names tables × names2 tables)
+    → Appends old new (λ tables at. followed at (first tables at) (second tables))
+    (λ tables. names tables × names2 tables)
 after {old} {between} {new} {first} {second} {names} {names2} h k = record {
   grows = grows_on h.grows k.grows;
   lines = λ tables grows.
@@ -77,15 +81,17 @@ after {old} {between} {new} {first} {second} {names} {names2} h k = record {
 }
 
 -- a line that pushes a constant, which has its number by then
-pub constant_pushed : {old between new : Builder} (d : Datum) (m charge : ℕ) (place : Place) → m ≡ number_in old.constants d
-    → between.constants ≡ with_constant old.constants d → between.types ≡ old.types
+pub constant_pushed : {old between new : Builder} (d : Datum) (m charge : ℕ) (place : Place)
+    → m ≡ number_in old.constants d → between.constants ≡ with_constant old.constants d → between.types ≡ old.types
     → between.lines ≡ old.lines → between.functions ≡ old.functions → between.statics ≡ old.statics
     → AppendsLine between new (λ tables. Push m) charge place Nothing
     → AppendsLine old new (λ tables. Push (constant_number tables d)) charge place (λ tables. HasConstant tables d)
 constant_pushed {old} {between} {new} d m charge place number constants types lines functions statics h =
     let test : Datum → Bool = λ c. is_eq (compare d c) in
-    let named : (tables : Tables) → Grows (tables_made new) tables → (constant_number tables d ≡ number_in old.constants d) × HasConstant tables d =
-    λ tables grows. named_by test d (is_itself d) (only_itself d) old.constants between.constants tables.constants constants
+    let named : (tables : Tables) → Grows (tables_made new) tables
+    → (constant_number tables d ≡ number_in old.constants d) × HasConstant tables d =
+    λ tables grows. named_by test d (is_itself d)
+    (only_itself d) old.constants between.constants tables.constants constants
     (grows_on h.grows grows).constants in
     record {
       grows = grows_on (record {
@@ -107,8 +113,10 @@ pub type_pushed : {old between new : Builder} (from to : Shape) (m : ℕ) (place
     → AppendsLine old new (λ tables. conversion tables from to) 1 place (λ tables. HasTarget tables (alike from to) to)
 type_pushed {old} {between} {new} from to m place other number types constants lines functions statics h =
     let test : Shape → Bool = λ s. alike s to in
-    let named : (tables : Tables) → Grows (tables_made new) tables → (type_number tables to ≡ type_number_in old.types to) × HasType tables to =
-    λ tables grows. named_by test to (alike_itself to) (λ s h. alike_equal s to h) old.types between.types tables.types types (grows_on h.grows grows).types in
+    let named : (tables : Tables) → Grows (tables_made new) tables
+    → (type_number tables to ≡ type_number_in old.types to) × HasType tables to =
+    λ tables grows. named_by test to (alike_itself to)
+    (λ s h. alike_equal s to h) old.types between.types tables.types types (grows_on h.grows grows).types in
     record {
       grows = grows_on (record {
         constants = ([], constants ∙ sym (append-nil old.constants));
@@ -116,34 +124,43 @@ type_pushed {old} {between} {new} from to m place other number types constants l
       }) h.grows;
       lines = λ tables grows. h.lines tables grows
           ∙ (λ j. lines j ++ line (changing to ((number ∙ sym (named tables grows).0) j)) 1 place ∷ [])
-          ∙ ap (λ (b : Bool). old.lines ++ line (if b then Tick else changing to (type_number tables to)) 1 place ∷ []) (sym other);
+          ∙ ap (λ (b : Bool). old.lines ++ line (if b then Tick else changing to (type_number tables to)) 1 place
+          ∷ []) (sym other);
       names = λ tables grows. subst (λ b. HasTarget tables b to) (sym other) (named tables grows).1;
       functions = h.functions ∙ functions;
       statics = h.statics ∙ statics;
     }
 
 -- a line that keeps the type
-pub kept_pushed : (old new : Builder) (from to : Shape) (place : Place) → alike from to ≡ true → AppendsLine old new (λ tables. Tick) 1 place Nothing
-    → AppendsLine old new (λ tables. conversion tables from to) 1 place (λ tables. HasTarget tables (alike from to) to)
+pub kept_pushed : (old new : Builder) (from to : Shape) (place : Place) → alike from to ≡ true
+    → AppendsLine old new (λ tables. Tick) 1 place Nothing → AppendsLine old new
+    (λ tables. conversion tables from to) 1 place (λ tables. HasTarget tables (alike from to) to)
 kept_pushed old new from to place same h = record {
   grows = h.grows;
   lines = λ tables grows. h.lines tables grows
-      ∙ ap (λ (b : Bool). old.lines ++ line (if b then Tick else changing to (type_number tables to)) 1 place ∷ []) (sym same);
+      ∙ ap (λ (b : Bool). old.lines ++ line (if b then Tick else changing to (type_number tables to)) 1 place ∷ [])
+      (sym same);
   names = λ tables grows. subst (λ b. HasTarget tables b to) (sym same) tt;
   functions = h.functions;
   statics = h.statics;
 }
 
 -- code and the line that closes it
-pub closes : {old between new : Builder} {code : Tables → ℕ → List Line} {i : Tables → Instr} {place : Place} {named named2 : Tables → Type 0}
-    → Appends old between code named → AppendsLine between new i 1 place named2
+pub closes : {old between new : Builder} {code : Tables → ℕ → List Line} {i : Tables → Instr} {place : Place}
+    {named named2 : Tables → Type 0} → Appends old between code named → AppendsLine between new i 1 place named2
     → Appends old new (λ tables at. closed (code tables at) (i tables) place) (λ tables. named tables × named2 tables)
 closes h k = after h k
 
 -- the last name counts for nothing
 pub no_more : {old new : Builder} {code : Tables → ℕ → List Line} {named : Tables → Type 0}
     → Appends old new code (λ tables. named tables × Unit {0}) → Appends old new code named
-no_more h = record { grows = h.grows; lines = h.lines; names = λ tables grows. (h.names tables grows).0; functions = h.functions; statics = h.statics }
+no_more h = record {
+  grows = h.grows;
+  lines = h.lines;
+  names = λ tables grows. (h.names tables grows).0;
+  functions = h.functions;
+  statics = h.statics;
+}
 
 -- nothing
 pub none : (b : Builder) → Appends b b (λ tables at. []) Nothing
@@ -156,8 +173,9 @@ none b = record {
 }
 
 -- the test passes over the right operand to the tick of the whole
-pub decided_made : {old m1 m2 m3 new : Builder} {right : Tables → ℕ → List Line} {named : Tables → Type 0} (test : Instr) (place : Place) (at : ℕ)
-    → at ≡ length old.lines → AppendsLine old m1 (λ tables. test) 0 place Nothing → Appends m1 m2 right named → Lands m2 m3 at
+pub decided_made : {old m1 m2 m3 new : Builder} {right : Tables → ℕ → List Line} {named : Tables → Type 0}
+    (test : Instr) (place : Place) (at : ℕ) → at ≡ length old.lines
+    → AppendsLine old m1 (λ tables. test) 0 place Nothing → Appends m1 m2 right named → Lands m2 m3 at
     → AppendsLine m3 new (λ tables. Tick) 1 place Nothing
     → Appends old new (λ tables at. decided (aimed test) place (right tables) at) named
 decided_made {old} {m1} {m2} {m3} {new} {right} test place at is_at h1 h2 l1 h3 =
@@ -165,8 +183,9 @@ decided_made {old} {m1} {m2} {m3} {new} {right} test place at is_at h1 h2 l1 h3 
     let g1 = grows_on h2.grows g2 in
     record {
       grows = grows_on h1.grows g1;
-      lines = λ tables grows. decided_lines old.lines m1.lines m2.lines m3.lines new.lines (right tables) test place at is_at
-          (h1.lines tables (grows_on g1 grows)) (h2.lines tables (grows_on g2 grows)) l1.lines (h3.lines tables grows);
+      lines = λ tables grows. decided_lines old.lines m1.lines m2.lines m3.lines new.lines (right tables)
+          test place at is_at (h1.lines tables (grows_on g1 grows))
+          (h2.lines tables (grows_on g2 grows)) l1.lines (h3.lines tables grows);
       names = λ tables grows. h2.names tables (grows_on g2 grows);
       functions = h3.functions ∙ l1.functions ∙ h2.functions ∙ h1.functions;
       statics = h3.statics ∙ l1.statics ∙ h2.statics ∙ h1.statics;
@@ -184,15 +203,16 @@ renamed more h = record {
 }
 
 -- code and the line that closes it, which names nothing
-pub closed_by : {old between new : Builder} {code : Tables → ℕ → List Line} {i : Tables → Instr} {place : Place} {named : Tables → Type 0}
-    → Appends old between code named → AppendsLine between new i 1 place Nothing
+pub closed_by : {old between new : Builder} {code : Tables → ℕ → List Line} {i : Tables → Instr} {place : Place}
+    {named : Tables → Type 0} → Appends old between code named → AppendsLine between new i 1 place Nothing
     → Appends old new (λ tables at. closed (code tables at) (i tables) place) named
 closed_by h k = no_more (closes h k)
 
 -- code, and an expression after it with the line that closes both
-pub closed_after : {old between new : Builder} {first : Tables → ℕ → List Line} {named : Tables → Type 0} (e : Node) (i : Instr) (place : Place)
-    → Appends old between first named → AppendsClosed between new e i place
-    → Appends old new (λ tables at. closed (followed at (first tables at) (expression_code tables e)) i place) (λ tables. named tables × HasNames tables e)
+pub closed_after : {old between new : Builder} {first : Tables → ℕ → List Line} {named : Tables → Type 0} (e : Node)
+    (i : Instr) (place : Place) → Appends old between first named → AppendsClosed between new e i place
+    → Appends old new (λ tables at. closed (followed at (first tables at) (expression_code tables e)) i place)
+    (λ tables. named tables × HasNames tables e)
 closed_after {old} {between} {new} {first} e i place h k =
     let whole = after h k in
     record {
@@ -200,14 +220,16 @@ closed_after {old} {between} {new} {first} e i place h k =
       lines = λ tables grows.
           let code = first tables (length old.lines) in
           whole.lines tables grows
-          ∙ ap (λ l. old.lines ++ l) (sym (append_assoc code (expression_code tables e (length old.lines + length code)) (line i 1 place ∷ [])));
+          ∙ ap (λ l. old.lines ++ l)
+          (sym (append_assoc code (expression_code tables e (length old.lines + length code)) (line i 1 place ∷ [])));
       names = whole.names;
       functions = whole.functions;
       statics = whole.statics;
     }
 
 -- three pieces, one after the other
-pub three_after : {old m1 m2 new : Builder} {first second third : Tables → ℕ → List Line} {named1 named2 named3 : Tables → Type 0}
+pub three_after : {old m1 m2 new : Builder} {first second third : Tables → ℕ → List Line}
+    {named1 named2 named3 : Tables → Type 0}
     → Appends old m1 first named1 → Appends m1 m2 second named2 → Appends m2 new third named3
     → Appends old new (λ tables at. followed at (followed at (first tables at) (second tables)) (third tables))
     (λ tables. named1 tables × named2 tables × named3 tables)
@@ -215,10 +237,11 @@ three_after h k l = renamed (λ tables n. (n.0.0, n.0.1, n.1)) (after (after h k
 
 -- an expression of a form
 pub of_form : {old new : Builder} (e : CoreExpr) (form : Form) → form_of e.form ≡ form
-    → Appends old new (λ tables at. form_code tables e.place (shape_of e.ty) form at) (λ tables. FormHasNames tables (shape_of e.ty) form)
-    → AppendsNode old new (node_of e)
+    → Appends old new (λ tables at. form_code tables e.place (shape_of e.ty) form at)
+    (λ tables. FormHasNames tables (shape_of e.ty) form) → AppendsNode old new (node_of e)
 of_form {old} {new} e form is h =
-    subst (λ f. Appends old new (λ tables at. form_code tables e.place (shape_of e.ty) f at) (λ tables. FormHasNames tables (shape_of e.ty) f)) (sym is) h
+    subst (λ f. Appends old new (λ tables at. form_code tables e.place (shape_of e.ty) f at)
+    (λ tables. FormHasNames tables (shape_of e.ty) f)) (sym is) h
 
 -- ---- lengths
 
@@ -250,14 +273,7 @@ pub count_is : {A : Type 0} (f : A → Node) (xs : List A) → count_of (nodes_o
 count_is f [] = refl
 count_is f (x ∷ xs) = ap suc (count_is f xs)
 
--- the number of all that a list has closes their code
-pub counted : (old new : Builder) (make : ℕ → Instr) (place : Place) {asked given es : List CoreExpr} {count : ℕ} → asked ≡ es → given ≡ es
-    → count ≡ count_of (nodes_of (map node_of asked)) → AppendsList old new (nodes_of (map node_of given)) (make count) place
-    → AppendsList old new (nodes_of (map node_of es)) (make (count_of (nodes_of (map node_of es)))) place
-counted old new make place {asked} {given} {es} {count} p q r h =
-    subst (λ n. AppendsList old new (nodes_of (map node_of es)) (make n) place) (r ∙ ap (λ (l : List CoreExpr). count_of (nodes_of (map node_of l))) p)
-    (subst (λ (l : List CoreExpr). AppendsList old new (nodes_of (map node_of l)) (make count) place) q h)
-
-pub pair_count_is : {A : Type 0} (f : A → Node × Node) (xs : List A) → pair_count_of (pairings_of (map f xs)) ≡ length xs
+pub pair_count_is : {A : Type 0} (f : A → Node × Node) (xs : List A)
+    → pair_count_of (pairings_of (map f xs)) ≡ length xs
 pair_count_is f [] = refl
 pair_count_is f (x ∷ xs) = ap suc (pair_count_is f xs)

@@ -57,8 +57,8 @@ still_same old new lines functions statics constants types = still (record {
 })
 
 -- a line more
-pub still_longer : (old new : Builder) (l : Line) → new.lines ≡ old.lines ++ l ∷ [] → new.functions ≡ old.functions → new.statics ≡ old.statics
-    → new.constants ≡ old.constants → new.types ≡ old.types → StillGoesOn old new
+pub still_longer : (old new : Builder) (l : Line) → new.lines ≡ old.lines ++ l ∷ [] → new.functions ≡ old.functions
+    → new.statics ≡ old.statics → new.constants ≡ old.constants → new.types ≡ old.types → StillGoesOn old new
 still_longer old new l lines functions statics constants types = still (record {
   lines = (l ∷ [], lines);
   constants = begins_same old.constants new.constants constants;
@@ -68,8 +68,8 @@ still_longer old new l lines functions statics constants types = still (record {
 })
 
 -- constants more
-pub more_constants : (old new : Builder) → BeginsWith old.constants new.constants → new.lines ≡ old.lines → new.functions ≡ old.functions
-    → new.statics ≡ old.statics → new.types ≡ old.types → StillGoesOn old new
+pub more_constants : (old new : Builder) → BeginsWith old.constants new.constants → new.lines ≡ old.lines
+    → new.functions ≡ old.functions → new.statics ≡ old.statics → new.types ≡ old.types → StillGoesOn old new
 more_constants old new constants lines functions statics types = still (record {
   lines = begins_same old.lines new.lines lines;
   constants = constants;
@@ -79,8 +79,8 @@ more_constants old new constants lines functions statics types = still (record {
 })
 
 -- types more
-pub more_types : (old new : Builder) → BeginsWith old.types new.types → new.lines ≡ old.lines → new.functions ≡ old.functions
-    → new.statics ≡ old.statics → new.constants ≡ old.constants → StillGoesOn old new
+pub more_types : (old new : Builder) → BeginsWith old.types new.types → new.lines ≡ old.lines
+    → new.functions ≡ old.functions → new.statics ≡ old.statics → new.constants ≡ old.constants → StillGoesOn old new
 more_types old new types lines functions statics constants = still (record {
   lines = begins_same old.lines new.lines lines;
   constants = begins_same old.constants new.constants constants;
@@ -91,15 +91,16 @@ more_types old new types lines functions statics constants = still (record {
 
 -- a line behind the front is given a target
 module _ (change : Instr → ℕ → Option Instr) where
-  changed_behind : (front rest : List Line) (at to : ℕ) → length front ≤ at → BeginsWith front (changed change (front ++ rest) at to)
+  changed_behind : (front rest : List Line) (at to : ℕ) → length front ≤ at
+      → BeginsWith front (changed change (front ++ rest) at to)
   changed_behind [] rest at to h = (changed change rest at to, refl)
   changed_behind (l ∷ front) rest zero to h = absurd (omega (arith, h))
   changed_behind (l ∷ front) rest (suc at) to h =
       let so = changed_behind front rest at to (omega (arith, h)) in
       (so.0, ap (λ ls. l ∷ ls) so.1)
 
-pub landed_behind : {change : Instr → ℕ → Option Instr} {first old new : Builder} {at : ℕ} → length first.lines ≤ at → LandsBy change old new at
-    → GoesOn first old → GoesOn first new
+pub landed_behind : {change : Instr → ℕ → Option Instr} {first old new : Builder} {at : ℕ} → length first.lines ≤ at
+    → LandsBy change old new at → GoesOn first old → GoesOn first new
 landed_behind {change} {first} {old} {new} {at} behind h g =
     let so = changed_behind change first.lines g.lines.0 at (length old.lines) behind in
     record {
@@ -118,7 +119,8 @@ cut_list : {A : Type 0} (xs ys : List A) → BeginsWith xs ys → take (length x
 cut_list xs ys h = ap (take (length xs)) h.1 ∙ take-append_seam xs h.0
 
 -- what goes on from code is that code again, once cut back to where it was
-pub undone : {old between new : Builder} {mark : Mark} → mark ≡ mark_of old → StillGoesOn old between → new ≡ cut_to mark between → new ≡ old
+pub undone : {old between new : Builder} {mark : Mark} → mark ≡ mark_of old → StillGoesOn old between
+    → new ≡ cut_to mark between → new ≡ old
 undone {old} {between} {new} {mark} marked keeps cut =
     let g = keeps old (goes_on_itself old) in
     cut ∙ ap (λ m. cut_to m between) marked

@@ -70,11 +70,12 @@ pub record Grows (before after : Tables) : Type 0 where
   pub constants : BeginsWith before.constants after.constants
   pub types : BeginsWith before.types after.types
 
--- after the lines there is code that begins where they ended. It names what it names by the numbers of all tables that the new ones grow
--- to, and these have what it names.
+-- after the lines there is code that begins where they ended. It names what it names by the numbers of all tables
+-- that the new ones grow to, and these have what it names.
 pub record Appends (old new : Builder) (code : Tables → ℕ → List Line) (named : Tables → Type 0) : Type 0 where
   pub grows : Grows (tables_made old) (tables_made new)
-  pub lines : (tables : Tables) → Grows (tables_made new) tables → new.lines ≡ old.lines ++ code tables (length old.lines)
+  pub lines : (tables : Tables) → Grows (tables_made new) tables
+      → new.lines ≡ old.lines ++ code tables (length old.lines)
   pub names : (tables : Tables) → Grows (tables_made new) tables → named tables
   pub functions : new.functions ≡ old.functions
   pub statics : new.statics ≡ old.statics
@@ -97,7 +98,8 @@ LandsPast old new at = LandsBy with_past old new at
 
 -- one line more, which may name something
 abbrev pub AppendsLine : Builder → Builder → (Tables → Instr) → (charge : ℕ) → Place → (Tables → Type 0) → Type 0
-AppendsLine old new instr charge place names = Appends old new (λ tables at. line (instr tables) charge place ∷ []) names
+AppendsLine old new instr charge place names =
+    Appends old new (λ tables at. line (instr tables) charge place ∷ []) names
 
 -- the code of an expression more
 abbrev pub AppendsNode : Builder → Builder → Node → Type 0
@@ -109,24 +111,29 @@ AppendsNodes old new es = Appends old new (λ tables at. expressions_code tables
 
 -- the same of keys and values
 abbrev pub AppendsPairings : Builder → Builder → Pairings → Type 0
-AppendsPairings old new ps = Appends old new (λ tables at. pairings_code tables ps at) (λ tables. PairingsHaveNames tables ps)
+AppendsPairings old new ps =
+    Appends old new (λ tables at. pairings_code tables ps at) (λ tables. PairingsHaveNames tables ps)
 
 -- the code of an expression more, and the line that closes it
 abbrev pub AppendsClosed : Builder → Builder → Node → Instr → Place → Type 0
-AppendsClosed old new e instr place = Appends old new (λ tables at. closed (expression_code tables e at) instr place) (λ tables. HasNames tables e)
+AppendsClosed old new e instr place =
+    Appends old new (λ tables at. closed (expression_code tables e at) instr place) (λ tables. HasNames tables e)
 
 -- the same of expressions
 abbrev pub AppendsList : Builder → Builder → Nodes → Instr → Place → Type 0
-AppendsList old new es instr place = Appends old new (λ tables at. closed (expressions_code tables es at) instr place) (λ tables. HaveNames tables es)
+AppendsList old new es instr place =
+    Appends old new (λ tables at. closed (expressions_code tables es at) instr place) (λ tables. HaveNames tables es)
 
 -- the same of keys and values, of which the line makes a map
 abbrev pub AppendsMap : Builder → Builder → Pairings → Place → Type 0
-AppendsMap old new ps place = Appends old new (λ tables at. closed (pairings_code tables ps at) (MakeMap (pair_count_of ps)) place)
+AppendsMap old new ps place =
+    Appends old new (λ tables at. closed (pairings_code tables ps at) (MakeMap (pair_count_of ps)) place)
     (λ tables. PairingsHaveNames tables ps)
 
 -- the code of the right operand of `&&` or `||` more, with the test that passes over it
 abbrev pub AppendsDecided : Builder → Builder → Instr → Place → Node → Type 0
-AppendsDecided old new test place e = Appends old new (λ tables at. decided (aimed test) place (expression_code tables e) at) (λ tables. HasNames tables e)
+AppendsDecided old new test place e = Appends old new
+    (λ tables at. decided (aimed test) place (expression_code tables e) at) (λ tables. HasNames tables e)
 
 -- names nothing
 abbrev pub Nothing : Tables → Type 0

@@ -171,7 +171,8 @@ impl Builder {
         charge: u32,
         place: Place,
     ) -> Result<(), NoMemory>
-        ensures made { OnOk result (AppendsLine self.old self.new (λ tables. Push (constant_number tables (seen value.now))) charge place (λ tables. HasConstant tables (seen value.now))) }
+        ensures made { OnOk result (AppendsLine self.old self.new (λ tables. Push
+            (constant_number tables (seen value.now))) charge place (λ tables. HasConstant tables (seen value.now))) }
         ensures err { OnErr result (self.new ≡ self.old) }
     {
         let mark = self.mark();
@@ -191,7 +192,8 @@ impl Builder {
         charge: u32,
         place: Place,
     ) -> Result<(), NoMemory>
-        ensures made { OnOk result (AppendsLine self.old self.new (λ tables. Push (constant_number tables (seen value.now))) charge place (λ tables. HasConstant tables (seen value.now))) }
+        ensures made { OnOk result (AppendsLine self.old self.new (λ tables. Push
+            (constant_number tables (seen value.now))) charge place (λ tables. HasConstant tables (seen value.now))) }
         ensures kept { StillGoesOn self.old self.new }
     {
         let number = small(self.constants.number(value)?)?;
@@ -202,7 +204,8 @@ impl Builder {
     #[tactic(auto, using(crate::proofs::Undone::as_before))]
     pub fn begin_function(&mut self, params: u32, locals: u32) -> Result<(), NoMemory>
         ensures err { OnErr result (self.new ≡ self.old) }
-        ensures functions { OnOk result (self.new.functions ≡ self.old.functions ++ record { entry = length self.old.lines; params = params; locals = locals } ∷ []) }
+        ensures functions { OnOk result (self.new.functions
+            ≡ self.old.functions ++ record { entry = length self.old.lines; params = params; locals = locals } ∷ []) }
         ensures lines { self.new.lines ≡ self.old.lines }
         ensures statics { self.new.statics ≡ self.old.statics }
         ensures constants { self.new.constants ≡ self.old.constants }
@@ -256,7 +259,9 @@ impl Builder {
 
     /// Appends a line that converts from the one type to the other.
     pub fn convert(&mut self, from: &Ty, to: &Ty, place: Place) -> Result<(), NoMemory>
-        ensures made { OnOk result (AppendsLine self.old self.new (λ tables. conversion tables (shape_of from.now) (shape_of to.now)) 1 place (λ tables. HasTarget tables (alike (shape_of from.now) (shape_of to.now)) (shape_of to.now))) }
+        ensures made { OnOk result
+            (AppendsLine self.old self.new (λ tables. conversion tables (shape_of from.now) (shape_of to.now)) 1 place
+            (λ tables. HasTarget tables (alike (shape_of from.now) (shape_of to.now)) (shape_of to.now))) }
         ensures err { OnErr result (self.new ≡ self.old) }
     {
         let mark = self.mark();
@@ -276,7 +281,9 @@ impl Builder {
         to: &Ty,
         place: Place,
     ) -> Result<(), NoMemory>
-        ensures made { OnOk result (AppendsLine self.old self.new (λ tables. conversion tables (shape_of from.now) (shape_of to.now)) 1 place (λ tables. HasTarget tables (alike (shape_of from.now) (shape_of to.now)) (shape_of to.now))) }
+        ensures made { OnOk result
+            (AppendsLine self.old self.new (λ tables. conversion tables (shape_of from.now) (shape_of to.now)) 1 place
+            (λ tables. HasTarget tables (alike (shape_of from.now) (shape_of to.now)) (shape_of to.now))) }
         ensures kept { StillGoesOn self.old self.new }
     {
         if same(from, to) {

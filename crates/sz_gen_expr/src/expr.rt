@@ -2,6 +2,7 @@
 ghost use Rattle.std.specs.Prelude.{◌≡◌, map, IfOk, OnOk};
 ghost use Rattle.sz_core.specs.Nodes.{nodes_of, pairings_of};
 ghost use Rattle.sz_core.specs.View.{node_of, pairing_of};
+ghost use Rattle.sz_instr.specs.declared.instr.Instr.TheVariants.{MakeArray, MakeTuple};
 ghost use Rattle.sz_gen_rules.specs.ExpressionCode.{count_of, pair_count_of};
 ghost use Rattle.sz_gen_expr.specs.Building.{AppendsNode, AppendsClosed, AppendsDecided, AppendsNodes, AppendsList, AppendsPairings, AppendsMap, StillGoesOn};
 
@@ -30,14 +31,8 @@ pub(crate) fn append_expr(e: &CoreExpr, into: &mut Builder) -> Result<(), NoMemo
             append_expr(part, into)?;
             into.add_conversion(&part.ty, &e.ty, e.place)
         }
-        Form::Array(parts) => {
-            let count = count(parts.as_slice())?;
-            append_list(parts.as_slice(), Instr::MakeArray(count), e.place, into)
-        }
-        Form::Tuple(parts) => {
-            let count = count(parts.as_slice())?;
-            append_list(parts.as_slice(), Instr::MakeTuple(count), e.place, into)
-        }
+        Form::Array(parts) => append_array(parts.as_slice(), e.place, into),
+        Form::Tuple(parts) => append_tuple(parts.as_slice(), e.place, into),
         Form::Map(pairs) => append_map(pairs.as_slice(), e.place, into),
         Form::Index(whole, index) => {
             append_expr(whole, into)?;
@@ -126,6 +121,26 @@ fn append_list(
 {
     append_all(es, into)?;
     into.close(instr, place)
+}
+
+// Appends the code of the array of these expressions.
+#[cycle(expr)]
+fn append_array(es: &[CoreExpr], place: Place, into: &mut Builder) -> Result<(), NoMemory>
+    ensures made { OnOk result (AppendsList into.old into.new (nodes_of (map node_of es.now)) (MakeArray (count_of (nodes_of (map node_of es.now)))) place) }
+    ensures kept { StillGoesOn into.old into.new }
+{
+    let count = count(es)?;
+    append_list(es, Instr::MakeArray(count), place, into)
+}
+
+// Appends the code of the tuple of these expressions.
+#[cycle(expr)]
+fn append_tuple(es: &[CoreExpr], place: Place, into: &mut Builder) -> Result<(), NoMemory>
+    ensures made { OnOk result (AppendsList into.old into.new (nodes_of (map node_of es.now)) (MakeTuple (count_of (nodes_of (map node_of es.now)))) place) }
+    ensures kept { StillGoesOn into.old into.new }
+{
+    let count = count(es)?;
+    append_list(es, Instr::MakeTuple(count), place, into)
 }
 
 /// Appends the code of expressions, one after the other.

@@ -24,7 +24,8 @@ number_at n at = node (column at) Shape.int (constant (Datum.int (pos n)))
 -- the expression
 abbrev pub example : Node
 example = node (column 1) Shape.truth (both (node (column 1) Shape.truth (constant (Datum.truth true)))
-    (node (column 9) Shape.truth (binary Equal (node (column 9) Shape.int (binary Add (number_at 1 9) (number_at 1 13))) (number_at 2 18))))
+    (node (column 9) Shape.truth
+    (binary Equal (node (column 9) Shape.int (binary Add (number_at 1 9) (number_at 1 13))) (number_at 2 18))))
 
 -- its code, from line 5 on
 abbrev pub example_code : List Line

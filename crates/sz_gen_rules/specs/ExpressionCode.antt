@@ -21,7 +21,8 @@ followed at code next = code ++ next (at + length code)
 abbrev pub closed : List Line → Instr → Place → List Line
 closed code instr place = code ++ line instr 1 place ∷ []
 
--- the code of `&&` or `||` after that of the left operand: the test passes over the right operand to the tick of the whole
+-- the code of `&&` or `||` after that of the left operand: the test passes over the right operand to the tick of the
+-- whole
 abbrev pub decided : (ℕ → Instr) → Place → (ℕ → List Line) → ℕ → List Line
 decided test place right at =
     let code = right (suc at) in
@@ -36,8 +37,8 @@ abbrev pub pair_count_of : Pairings → ℕ
 pair_count_of no_pairings = 0
 pair_count_of (with_pairing k v ps) = suc (pair_count_of ps)
 
--- the instruction that makes a value of another type one of this type, which has this number: a message is decoded, since bytes
--- alone become one
+-- the instruction that makes a value of another type one of this type, which has this number: a message is decoded,
+-- since bytes alone become one
 abbrev pub changing : Shape → ℕ → Instr
 changing (Shape.proto _) number = Decode number
 changing _ number = Convert number
@@ -70,7 +71,8 @@ module _ (tables : Tables) where
         closed (followed at (followed at (expression_code e at) (expression_code i)) (expression_code j)) Slice place
     form_code place t (field e n) at = closed (expression_code e at) (Field n) place
     form_code place t (unary o e) at = closed (expression_code e at) (Unary o) place
-    form_code place t (binary o a b) at = closed (followed at (expression_code a at) (expression_code b)) (Binary o) place
+    form_code place t (binary o a b) at =
+        closed (followed at (expression_code a at) (expression_code b)) (Binary o) place
     form_code place t (both a b) at = followed at (expression_code a at) (decided AndTest place (expression_code b))
     form_code place t (either a b) at = followed at (expression_code a at) (decided OrTest place (expression_code b))
 
@@ -82,7 +84,8 @@ module _ (tables : Tables) where
     -- the code of keys and values, by turns
     pub pairings_code : Pairings → ℕ → List Line
     pairings_code no_pairings at = []
-    pairings_code (with_pairing k v ps) at = followed at (followed at (expression_code k at) (expression_code v)) (pairings_code ps)
+    pairings_code (with_pairing k v ps) at =
+        followed at (followed at (expression_code k at) (expression_code v)) (pairings_code ps)
 
   -- the code of the indexes among steps
   abbrev pub indexes_code : List core.Step → ℕ → List Line

@@ -69,16 +69,18 @@ function_lines_of core code = functions_code (tables_in code) (functions_of core
 
 -- the code of its statics, behind that of the functions
 abbrev pub static_lines_of : Core → Code → List Line
-static_lines_of core code = statics_code (tables_in code) 0 (statics_of core.items) (length (function_lines_of core code))
+static_lines_of core code =
+    statics_code (tables_in code) 0 (statics_of core.items) (length (function_lines_of core code))
 
--- the code is that of the program: functions first, then statics, then the record. It has the constants and the types that its lines
--- name, and counts lines where the program is ignoring, which changes none of its lines.
+-- the code is that of the program: functions first, then statics, then the record. It has the constants and the types
+-- that its lines name, and counts lines where the program is ignoring, which changes none of its lines.
 pub record IsCodeOf (program : Marked) (code : Code) : Type 0 where
   pub lines : code.lines ≡ function_lines_of program.core code
       ++ (static_lines_of program.core code
       ++ record_code (tables_in code) program.core code.main.entry)
   pub functions : code.functions ≡ function_routines (tables_in code) (functions_of program.core.items) 0
-  pub statics : code.statics ≡ static_routines (tables_in code) 0 (statics_of program.core.items) (length (function_lines_of program.core code))
+  pub statics : code.statics ≡ static_routines (tables_in code) 0 (statics_of program.core.items)
+      (length (function_lines_of program.core code))
   pub main : code.main ≡ record {
     entry = length (function_lines_of program.core code)
         + length (static_lines_of program.core code);

@@ -1,5 +1,6 @@
--- The code of `when`, over the code of its bases, its condition and its statement. Where a search fails it goes to a given line. The
--- flags of variables for each candidate lie on the stack: whether the rest of the search succeeded by now.
+-- The code of `when`, over the code of its bases, its condition and its statement. Where a search fails it goes to a
+-- given line. The flags of variables for each candidate lie on the stack: whether the rest of the search succeeded by
+-- now.
 use Rattle.std.specs.Prelude.{ℕ, suc, ◌+◌, List, [], ◌∷◌, ◌++◌, length, Bool, true, false}
 use Rattle.sz_types.specs.declared.place.Place.{Place}
 use Rattle.sz_value.specs.Data.{Datum}
@@ -29,8 +30,8 @@ module _ (place : Place) where
       let top = at + length base + 1 in
       base ++ free (Enter v.slice) ∷ line (Next v.local fail) 1 place ∷ (rest top (suc top) ++ free Leave ∷ [])
 
-  -- a variable for each candidate: the base; its list and a flag; the next candidate, the rest, the flag is set, a jump back; and at the
-  -- end of the list the flag decides
+  -- a variable for each candidate: the base; its list and a flag; the next candidate, the rest, the flag is set, a
+  -- jump back; and at the end of the list the flag decides
   abbrev pub each_code : Tables → VariableCode → (rest : (fail : ℕ) → ℕ → List Line) → (fail : ℕ) → ℕ → List Line
   each_code tables v rest fail at =
       let base = v.base at in
@@ -39,8 +40,8 @@ module _ (place : Place) where
       base ++ free (Enter v.slice) ∷ flag tables false ∷ line (Next v.local (suc top + length tried + 3)) 1 place
       ∷ (tried ++ free Discard ∷ flag tables true ∷ goes top ∷ free (Meets fail) ∷ [])
 
-  -- a variable for all candidates: the base; its list; a jump to the next candidate; the way out, which drops the list; the next
-  -- candidate, the rest and a jump back
+  -- a variable for all candidates: the base; its list; a jump to the next candidate; the way out, which drops the
+  -- list; the next candidate, the rest and a jump back
   abbrev pub all_code : VariableCode → (rest : (fail : ℕ) → ℕ → List Line) → (fail : ℕ) → ℕ → List Line
   all_code v rest fail at =
       let base = v.base at in
@@ -54,10 +55,12 @@ module _ (place : Place) where
   holds_code condition [] fail at = condition at ++ free (Fails fail) ∷ []
   holds_code condition (v ∷ vs) fail at = all_code v (holds_code condition vs) fail at
 
--- the place of the statement, the code of its condition, and that of the statement inside with so many flags on the stack
+-- the place of the statement, the code of its condition, and that of the statement inside with so many flags on the
+-- stack
 module _ (tables : Tables) (place : Place) (condition : ℕ → List Line) (body : (flags : ℕ) → ℕ → List Line) where
   -- the code of a variable, by how it is quantified, over that of the rest with as many flags and with one more
-  abbrev pub variable_code : Quantity → VariableCode → (rest flagged whole : (fail : ℕ) → ℕ → List Line) → (flags fail : ℕ) → ℕ → List Line
+  abbrev pub variable_code : Quantity → VariableCode → (rest flagged whole : (fail : ℕ) → ℕ → List Line)
+      → (flags fail : ℕ) → ℕ → List Line
   variable_code some v rest flagged whole flags fail at = some_code place v rest fail at
   variable_code each v rest flagged whole flags fail at = each_code place tables v flagged fail at
   variable_code all v rest flagged whole flags fail at = whole fail at ++ body flags (at + length (whole fail at))
@@ -68,7 +71,8 @@ module _ (tables : Tables) (place : Place) (condition : ℕ → List Line) (body
       let asked = condition at in
       asked ++ free (Meets fail) ∷ body flags (at + length asked + 1)
   search_code (v ∷ vs) flags fail at =
-      variable_code v.quantity v (search_code vs flags) (search_code vs (suc flags)) (holds_code place condition (v ∷ vs)) flags fail at
+      variable_code v.quantity v (search_code vs flags) (search_code vs (suc flags))
+      (holds_code place condition (v ∷ vs)) flags fail at
 
   -- the whole statement: a jump to the search, a jump past it, to which it goes where it fails, and the search
   abbrev pub when_code : List VariableCode → (flags : ℕ) → ℕ → List Line

@@ -1,5 +1,5 @@
--- The code of statements. Places in it are absolute. A loop begins with two jumps, so that `break` and `continue` lead to places
--- that are known before the body.
+-- The code of statements. Places in it are absolute. A loop begins with two jumps, so that `break` and `continue`
+-- lead to places that are known before the body.
 use Rattle.std.specs.Prelude.{ℕ, zero, suc, ◌+◌, List, [], ◌∷◌, ◌++◌, length, map, Option, Some, None, is_some}
 use Rattle.sz_types.specs.declared.place.Place.{Place}
 use Rattle.sz_core.specs.Nodes.{Node, Nodes}
@@ -15,7 +15,8 @@ use Rattle.sz_gen_rules.specs.ExpressionCode.{followed, closed, expression_code,
 use Rattle.sz_gen_rules.specs.FreeLines.{free, goes}
 use Rattle.sz_gen_rules.specs.SearchCode.{VariableCode, when_code}
 
--- where a statement's code is left: the lines that `break` and `continue` go to, and how many flags of searches are on the stack
+-- where a statement's code is left: the lines that `break` and `continue` go to, and how many flags of searches are
+-- on the stack
 pub record Exits : Type 0 where
   pub on_break : ℕ
   pub on_continue : ℕ
@@ -43,7 +44,8 @@ abbrev pub bare_step : core.Step → Step
 bare_step (at_index e) = steps.Index
 bare_step (at_field n) = steps.Field n
 
--- a test, and code for where it is true and for where it is false; past both where it is undefined and the statement is passed over
+-- a test, and code for where it is true and for where it is false; past both where it is undefined and the statement
+-- is passed over
 abbrev pub branch_code : Place → List Line → (first second : ℕ → List Line) → ℕ → List Line
 branch_code place test first second at =
     let start = at + length test + 1 in
@@ -61,8 +63,9 @@ test_code tables place (Some e) away past at = expression_code tables e at ++ li
 abbrev pub loop_test_code : Tables → Place → Option Node → (start : ℕ) → ℕ → List Line
 loop_test_code tables place e start at = test_code tables place e (start + 1) (start + 1) at
 
--- a loop that is tested before each turn: a jump to the test; a jump past the loop, to which `break` and the test go; what is done
--- between turns, to which `continue` goes, and the loop return; the test; the body, and a jump to what is done between turns
+-- a loop that is tested before each turn: a jump to the test; a jump past the loop, to which `break` and the test go;
+-- what is done between turns, to which `continue` goes, and the loop return; the test; the body, and a jump to what
+-- is done between turns
 abbrev pub loop_code : Place → (between : ℕ → List Line) → (test body : ℕ → List Line) → ℕ → List Line
 loop_code place between test body at =
     let stepped = between (at + 2) in
@@ -72,8 +75,8 @@ loop_code place between test body at =
     goes start ∷ goes (start + length asked + length turn + 1)
     ∷ (stepped ++ line Tick 1 place ∷ (asked ++ (turn ++ goes (at + 2) ∷ [])))
 
--- a loop that is tested after each turn: a jump to the body; a jump past the loop, to which `break` and the test go; a jump to the
--- test, to which `continue` goes; the body; the test, the loop return, and a jump to the body
+-- a loop that is tested after each turn: a jump to the body; a jump past the loop, to which `break` and the test go;
+-- a jump to the test, to which `continue` goes; the body; the test, the loop return, and a jump to the body
 abbrev pub loop_after_code : Place → (body test : ℕ → List Line) → ℕ → List Line
 loop_after_code place body test at =
     let turn = body (at + 3) in
@@ -86,12 +89,18 @@ module _ (tables : Tables) where
   -- the code of an emit
   abbrev pub emit_code : Place → ℕ → Nodes → Node → Option Node → ℕ → List Line
   emit_code place table es e w at =
-      closed (followed at (followed at (expressions_code tables es at) (expression_code tables e)) (code_if_some tables w))
+      closed
+      (followed at (followed at (expressions_code tables es at) (expression_code tables e)) (code_if_some tables w))
       (Emit table (count_of es) (is_some w)) place
 
   -- a variable of `when`, with the code of its base
   abbrev pub variable_code_of : Quantified → VariableCode
-  variable_code_of v = record { quantity = v.quantity; local = v.local; slice = v.slice; base = expression_code tables v.base }
+  variable_code_of v = record {
+    quantity = v.quantity;
+    local = v.local;
+    slice = v.slice;
+    base = expression_code tables v.base;
+  }
 
   abbrev mutual
     -- the code of a statement that begins at a line, with the exits around it
@@ -100,23 +109,29 @@ module _ (tables : Tables) where
     statement_code (clear n) out at = free (Clear n) ∷ []
     statement_code (keep place n e) out at = closed (expression_code tables e at) (Keep n) place
     statement_code (store place n path e) out at =
-        closed (followed at (indexes_code tables path at) (expression_code tables e)) (Store n (map bare_step path)) place
+        closed (followed at (indexes_code tables path at) (expression_code tables e))
+        (Store n (map bare_step path)) place
     statement_code (evaluate place e) out at = expression_code tables e at ++ line Discard 0 place ∷ []
     statement_code (branch place e first second) out at =
         branch_code place (expression_code tables e at) (statement_code first out) (statement_code second out) at
     statement_code (while place e body) out at =
-        loop_code place (λ _. []) (loop_test_code tables place (Some e) at) (statement_code body (in_loop out (at + 1) (at + 2))) at
+        loop_code place (λ _. []) (loop_test_code tables place (Some e) at)
+        (statement_code body (in_loop out (at + 1) (at + 2))) at
     statement_code (do_while place body e) out at =
-        loop_after_code place (statement_code body (in_loop out (at + 1) (at + 2))) (loop_test_code tables place (Some e) at) at
+        loop_after_code place (statement_code body (in_loop out (at + 1) (at + 2)))
+        (loop_test_code tables place (Some e) at) at
     statement_code (for_loop place e between body) out at =
-        loop_code place (statement_code between out) (loop_test_code tables place e at) (statement_code body (in_loop out (at + 1) (at + 2))) at
+        loop_code place (statement_code between out) (loop_test_code tables place e at)
+        (statement_code body (in_loop out (at + 1) (at + 2))) at
     statement_code break out at = goes out.on_break ∷ []
     statement_code continue out at = goes out.on_continue ∷ []
-    statement_code (return_value place e) out at = closed (followed at (discards out.flags) (expression_code tables e)) Return place
+    statement_code (return_value place e) out at =
+        closed (followed at (discards out.flags) (expression_code tables e)) Return place
     statement_code (end_record place) out at = line EndRecord 1 place ∷ []
     statement_code (emit place table es e w) out at = emit_code place table es e w at
     statement_code (when place vs c body) out at =
-        when_code tables place (expression_code tables c) (λ flags. statement_code body (in_search out flags)) (map variable_code_of vs) out.flags at
+        when_code tables place (expression_code tables c) (λ flags. statement_code body (in_search out flags))
+        (map variable_code_of vs) out.flags at
 
     -- the code of statements, one after the other
     pub statements_code : Stms → Exits → ℕ → List Line

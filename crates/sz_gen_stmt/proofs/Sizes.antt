@@ -24,7 +24,8 @@ size_if_any None = 0
 size_if_any (Some s) = stm_size s
 
 -- a statement among others
-pub item_size : (all : List CoreStmt) (i : ℕ) (s : CoreStmt) → i < length all → s ≡ get_or all i s → stm_size (stm_of s) < stms_size (stms_of (map stm_of all))
+pub item_size : (all : List CoreStmt) (i : ℕ) (s : CoreStmt) → i < length all → s ≡ get_or all i s
+    → stm_size (stm_of s) < stms_size (stms_of (map stm_of all))
 item_size [] i s lt e = absurd (omega arith)
 item_size (x ∷ all) zero s lt e = omega (arith, ap (λ (y : CoreStmt). stm_size (stm_of y)) e)
 item_size (x ∷ all) (suc i) s lt e = omega (arith, item_size all i s (omega arith) e)

@@ -44,22 +44,27 @@ code_if_any tables (Some s) out at = statement_code tables s out at
 
 -- the code of a statement more
 abbrev pub AppendsStm : Builder → Builder → Stm → codes.Exits → Type 0
-AppendsStm old new s out = Appends old new (λ tables at. statement_code tables s out at) (λ tables. StmHasNames tables s)
+AppendsStm old new s out =
+    Appends old new (λ tables at. statement_code tables s out at) (λ tables. StmHasNames tables s)
 
 -- the code of statements more
 abbrev pub AppendsStms : Builder → Builder → Stms → codes.Exits → Type 0
-AppendsStms old new ss out = Appends old new (λ tables at. statements_code tables ss out at) (λ tables. StmsHaveNames tables ss)
+AppendsStms old new ss out =
+    Appends old new (λ tables at. statements_code tables ss out at) (λ tables. StmsHaveNames tables ss)
 
 -- the code of a statement more, where there is one
 abbrev pub AppendsIfAny : Builder → Builder → Option Stm → codes.Exits → Type 0
-AppendsIfAny old new s out = Appends old new (λ tables at. code_if_any tables s out at) (λ tables. IfSome s (StmHasNames tables))
+AppendsIfAny old new s out =
+    Appends old new (λ tables at. code_if_any tables s out at) (λ tables. IfSome s (StmHasNames tables))
 
 -- the code of a loop's test more, which goes to a line where it isn't true
 abbrev pub AppendsTest : Builder → Builder → Place → Option Node → (away : ℕ) → Type 0
-AppendsTest old new place test away = Appends old new (λ tables at. test_code tables place test away away at) (λ tables. IfSome test (HasNames tables))
+AppendsTest old new place test away =
+    Appends old new (λ tables at. test_code tables place test away away at) (λ tables. IfSome test (HasNames tables))
 
 -- the code of a loop that is tested before each turn more
-abbrev pub AppendsLoop : Builder → Builder → Place → (test : Option Node) → (between : Option Stm) → (body : Stm) → codes.Exits → Type 0
+abbrev pub AppendsLoop : Builder → Builder → Place → (test : Option Node) → (between : Option Stm) → (body : Stm)
+    → codes.Exits → Type 0
 AppendsLoop old new place test between body out = Appends old new
     (λ tables at. loop_code place (code_if_any tables between out) (loop_test_code tables place test at)
     (statement_code tables body (in_loop out (at + 1) (at + 2))) at)
@@ -67,14 +72,16 @@ AppendsLoop old new place test between body out = Appends old new
 
 -- the code of a variable's base more, and the line that makes the list of its candidates
 abbrev pub AppendsCandidates : Builder → Builder → Quantified → Type 0
-AppendsCandidates old new v = Appends old new (λ tables at. expression_code tables v.base at ++ free (Enter v.slice) ∷ []) (λ tables. HasNames tables v.base)
+AppendsCandidates old new v = Appends old new
+    (λ tables at. expression_code tables v.base at ++ free (Enter v.slice) ∷ []) (λ tables. HasNames tables v.base)
 
 -- the code of a search over these variables more, which goes to a line where it fails
 abbrev pub AppendsSearch : Builder → Builder → Place → List Quantified → Node → Stm → codes.Exits → (fail : ℕ) → Type 0
 AppendsSearch old new place vs condition body out fail = Appends old new
-    (λ tables at. search_code tables place (expression_code tables condition) (λ flags. statement_code tables body (in_search out flags))
-    (map (variable_code_of tables) vs) out.flags fail at)
-    (λ tables. BasesHaveNames tables vs × FlagsHaveNames tables vs × HasNames tables condition × StmHasNames tables body)
+    (λ tables at. search_code tables place (expression_code tables condition)
+    (λ flags. statement_code tables body (in_search out flags)) (map (variable_code_of tables) vs) out.flags fail at)
+    (λ tables. BasesHaveNames tables vs × FlagsHaveNames tables vs × HasNames tables condition
+    × StmHasNames tables body)
 
 -- the code of whether the condition is true or undefined for all candidates of these variables
 abbrev pub AppendsHolds : Builder → Builder → Place → List Quantified → Node → (fail : ℕ) → Type 0
@@ -84,26 +91,31 @@ AppendsHolds old new place vs condition fail = Appends old new
 
 -- the code of the indexes among steps more
 abbrev pub AppendsIndexes : Builder → Builder → List Step → Type 0
-AppendsIndexes old new steps = Appends old new (λ tables at. indexes_code tables steps at) (λ tables. StepsHaveNames tables steps)
+AppendsIndexes old new steps =
+    Appends old new (λ tables at. indexes_code tables steps at) (λ tables. StepsHaveNames tables steps)
 
 -- the same as `Appends`, with the routines of functions and of statics that begin in that code
 pub record Extends (old new : Builder) (code : Tables → ℕ → List Line)
     (called kept : Tables → ℕ → List Routine) (named : Tables → Type 0) : Type 0 where
   pub grows : Grows (tables_made old) (tables_made new)
-  pub lines : (tables : Tables) → Grows (tables_made new) tables → new.lines ≡ old.lines ++ code tables (length old.lines)
-  pub functions : (tables : Tables) → Grows (tables_made new) tables → new.functions ≡ old.functions ++ called tables (length old.lines)
-  pub statics : (tables : Tables) → Grows (tables_made new) tables → new.statics ≡ old.statics ++ kept tables (length old.lines)
+  pub lines : (tables : Tables) → Grows (tables_made new) tables
+      → new.lines ≡ old.lines ++ code tables (length old.lines)
+  pub functions : (tables : Tables) → Grows (tables_made new) tables
+      → new.functions ≡ old.functions ++ called tables (length old.lines)
+  pub statics : (tables : Tables) → Grows (tables_made new) tables
+      → new.statics ≡ old.statics ++ kept tables (length old.lines)
   pub names : (tables : Tables) → Grows (tables_made new) tables → named tables
 
 -- the code of a function more, with its routine
 abbrev pub ExtendsFunction : Builder → Builder → Function → Type 0
 ExtendsFunction old new f = Extends old new (λ tables at. function_code tables f at)
-    (λ tables at. record { entry = at; params = length f.signature.parameters; locals = length f.locals } ∷ []) (λ tables at. [])
-    (λ tables. HasConstant tables (Datum.int (pos 0)) × StmsHaveNames tables f.body)
+    (λ tables at. record { entry = at; params = length f.signature.parameters; locals = length f.locals } ∷ [])
+    (λ tables at. []) (λ tables. HasConstant tables (Datum.int (pos 0)) × StmsHaveNames tables f.body)
 
 -- the same of functions
 abbrev pub ExtendsFunctions : Builder → Builder → List Function → Type 0
-ExtendsFunctions old new fs = Extends old new (λ tables at. functions_code tables fs at) (λ tables at. function_routines tables fs at) (λ tables at. [])
+ExtendsFunctions old new fs = Extends old new (λ tables at. functions_code tables fs at)
+    (λ tables at. function_routines tables fs at) (λ tables at. [])
     (λ tables. FunctionsHaveNames tables fs)
 
 -- the code of the static with this number more, with its routine
@@ -113,5 +125,5 @@ ExtendsStatic old new n s = Extends old new (λ tables at. static_code tables n 
 
 -- the same of statics from this number on
 abbrev pub ExtendsStatics : Builder → Builder → ℕ → List Static → Type 0
-ExtendsStatics old new n ss = Extends old new (λ tables at. statics_code tables n ss at) (λ tables at. []) (λ tables at. static_routines tables n ss at)
-    (λ tables. StaticsHaveNames tables ss)
+ExtendsStatics old new n ss = Extends old new (λ tables at. statics_code tables n ss at) (λ tables at. [])
+    (λ tables at. static_routines tables n ss at) (λ tables. StaticsHaveNames tables ss)

@@ -8,7 +8,7 @@ use std::alloc::Global;
 use std::marker::Model;
 use std::snapshot::Snapshot;
 use sz_core::Program;
-use sz_gen_laws::code_of_a_sound_program_is_compiled;
+use sz_gen_rules::code_of_a_sound_program_is_compiled;
 use sz_instr::Code;
 use sz_types::TableDecls;
 use sz_value::NoMemory;

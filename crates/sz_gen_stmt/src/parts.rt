@@ -38,7 +38,8 @@ pub fn jump(into: &mut Builder) -> Result<usize, NoMemory>
 
 /// Appends a line that pushes the flag of a variable for each candidate.
 pub fn gen_flag(flag: bool, into: &mut Builder) -> Result<(), NoMemory>
-    ensures made { OnOk result (AppendsLine into.old into.new (λ tables. Push (constant_number tables (truth flag))) 0 no_place (λ tables. HasConstant tables (truth flag))) }
+    ensures made { OnOk result (AppendsLine into.old into.new (λ tables. Push (constant_number tables (truth flag))) 0
+        no_place (λ tables. HasConstant tables (truth flag))) }
 {
     into.push_constant(&Value::Bool(flag), 0, Place { line: 1, column: 1 })
 }

@@ -1,4 +1,5 @@
-//! Tests of where an input comes from and how it is read: devices, the generated input, the wire format, records, and where files are cut.
+//! Tests of the command line, and of where an input comes from and how it is read: words, devices, the generated input, the wire format,
+//! records, and where files are cut.
 #![tactic(auto)]
 
 #[cfg(test)]
@@ -12,6 +13,14 @@ mod ends;
 #[cfg(test)]
 mod feed;
 #[cfg(test)]
+mod file_rows;
+#[cfg(test)]
 mod records;
+#[cfg(test)]
+mod resume_rows;
+#[cfg(test)]
+mod rows;
+#[cfg(test)]
+mod told;
 #[cfg(test)]
 mod wire;

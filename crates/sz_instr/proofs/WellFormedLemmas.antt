@@ -17,22 +17,29 @@ most_of_append : (rs ss : List Routine) → most_of (rs ++ ss) ≡ max (most_of 
 most_of_append [] ss = omega arith
 most_of_append (r ∷ rs) ss = omega (arith, most_of_append rs ss)
 
-pub most_locals_by_list : (code : Code) → most_locals code ≡ max (max (most_of code.functions) (most_of code.statics)) code.main.locals
+pub most_locals_by_list : (code : Code)
+    → most_locals code ≡ max (max (most_of code.functions) (most_of code.statics)) code.main.locals
 unfolding most_locals
 most_locals_by_list code =
-    omega (arith, most_of_append code.functions (code.statics ++ code.main ∷ []), most_of_append code.statics (code.main ∷ []))
+    omega (
+      arith,
+      most_of_append code.functions (code.statics ++ code.main ∷ []),
+      most_of_append code.statics (code.main ∷ []),
+    )
 
 -- whether a number is below the greatest of a list
 below_most : (n : ℕ) (rs : List Routine) → nat_lt n (most_of rs) ≡ list_any (λ r. nat_lt n r.locals) rs
 below_most n [] = grind arith
 below_most n (r ∷ rs) = grind (arith, below_most n rs)
 
-pub local_of_a_routine : (code : Code) (n : ℕ) → nat_lt n (most_locals code) ≡ list_any (λ r. nat_lt n r.locals) (routines_of code)
+pub local_of_a_routine : (code : Code) (n : ℕ)
+    → nat_lt n (most_locals code) ≡ list_any (λ r. nat_lt n r.locals) (routines_of code)
 unfolding most_locals
 local_of_a_routine code n = below_most n (routines_of code)
 
 -- that all of three lists pass, the last with one element
-all_of_three : {X : Type 0} (p : X → Bool) (xs ys : List X) (z : X) → list_all p (xs ++ (ys ++ z ∷ [])) ≡ (list_all p xs && list_all p ys && p z)
+all_of_three : {X : Type 0} (p : X → Bool) (xs ys : List X) (z : X)
+    → list_all p (xs ++ (ys ++ z ∷ [])) ≡ (list_all p xs && list_all p ys && p z)
 all_of_three p xs ys z = grind (arith, list_all-append p xs (ys ++ z ∷ []), list_all-append p ys (z ∷ []))
 
 pub well_formed_by_list : (code : Code) → is_well_formed code
@@ -44,9 +51,11 @@ well_formed_by_list code =
     (all_of_three (is_routine code) code.functions code.statics code.main)
 
 -- where all elements pass, so does the one at a place
-passes_at : {X : Type 0} (p : X → Bool) (xs : List X) (i : ℕ) (x : X) → list_all p xs ≡ true → slice_get xs i ≡ Some x → p x ≡ true
+passes_at : {X : Type 0} (p : X → Bool) (xs : List X) (i : ℕ) (x : X) → list_all p xs ≡ true
+    → slice_get xs i ≡ Some x → p x ≡ true
 passes_at {X} p xs i x all is =
-    let found = All-get_or (λ (y : X). p y ≡ true) xs i x (slice_get_within xs i x is) (AllPass-from_list_all p xs all) in
+    let found =
+    All-get_or (λ (y : X). p y ≡ true) xs i x (slice_get_within xs i x is) (AllPass-from_list_all p xs all) in
     subst (λ (y : X). p y ≡ true) (get_or_from_slice_get xs i x x is) found
 
 module _ (code : Code) (formed : is_well_formed code ≡ true) where

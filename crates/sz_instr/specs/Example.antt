@@ -12,7 +12,11 @@ use Rattle.sz_instr.specs.declared.code.Code.{Code}
 
 -- an instruction with its charge, for the part of the program's text that begins in this line and column
 abbrev pub line_of : Instr → ℕ → ℕ → ℕ → Line
-line_of instr charge row column = record { instr = instr; charge = charge; place = record { line = row; column = column } }
+line_of instr charge row column = record {
+  instr = instr;
+  charge = charge;
+  place = record { line = row; column = column };
+}
 
 -- x: int = input; emit count <- 1; emit total <- x; emit sum_of_squares <- x * x;
 abbrev pub example_lines : List Line

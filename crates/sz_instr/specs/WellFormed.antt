@@ -28,8 +28,9 @@ abbrev pub is_message_type : Option Shape → Bool
 is_message_type (Some (Shape.proto _)) = true
 is_message_type _ = false
 
--- whether each number of the instruction is in range: a place is that of a line, a local is one of some routine, and constants,
--- statics, types, functions and tables are there; a message is decoded by a proto type. Counts of parts, and places of parts, are no numbers of the code's own.
+-- whether each number of the instruction is in range: a place is that of a line, a local is one of some routine, and
+-- constants, statics, types, functions and tables are there; a message is decoded by a proto type. Counts of parts,
+-- and places of parts, are no numbers of the code's own.
 abbrev pub is_in_range : Code → Instr → Bool
 is_in_range code (Push constant) = nat_lt constant (length code.constants)
 is_in_range code (Local n) = nat_lt n (most_locals code)
@@ -76,8 +77,9 @@ abbrev pub is_table_if_named : Code → Option ℕ → Bool
 is_table_if_named code None = true
 is_table_if_named code (Some table) = nat_lt table (length code.tables)
 
--- whether the code is well formed: its routines are routines in it, the table that counts lines is one of its tables, and each line's
--- instruction is in range
+-- whether the code is well formed: its routines are routines in it, the table that counts lines is one of its tables,
+-- and each line's instruction is in range
 unfoldable pub is_well_formed : Code → Bool
 is_well_formed code =
-    list_all (is_routine code) (routines_of code) && is_table_if_named code code.ignore && list_all (λ line. is_in_range code line.instr) code.lines
+    list_all (is_routine code) (routines_of code) && is_table_if_named code code.ignore
+    && list_all (λ line. is_in_range code line.instr) code.lines

@@ -1,4 +1,5 @@
-//! The machine's code as plain data: instructions, lines, routines and what they name by numbers; whether code is well formed.
+//! The machine's code as plain data: instructions, lines, routines and what they name by numbers; whether code is well formed; and what
+//! a run of code is, as definitions with their laws.
 #![tactic(auto)]
 
 mod code;
@@ -7,6 +8,7 @@ mod laws;
 mod line;
 mod range;
 mod routine;
+mod run_laws;
 mod step;
 
 pub use code::Code;
@@ -17,4 +19,5 @@ pub use laws::{
 pub use line::{Line, Lines};
 pub use range::well_formed;
 pub use routine::{Routine, Routines};
+pub use run_laws::{a_run_emits_what_fits, a_run_ends_in_one_way};
 pub use step::{Step, Steps};

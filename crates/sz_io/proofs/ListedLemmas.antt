@@ -13,10 +13,12 @@ listed_most fails (suc call) = grind (arith, tests, listed_most fails call)
 
 -- after a call there is one fault more exactly where it was to fail
 pub listed_after : (fails : List ℕ) (call : ℕ) → call < 2 ^ 64
-    → listed_before (min (call + 1) (2 ^ 64 - 1)) fails ≡ listed_before call fails + (if is_listed fails call then 1 else 0)
+    → listed_before (min (call + 1) (2 ^ 64 - 1)) fails
+    ≡ listed_before call fails + (if is_listed fails call then 1 else 0)
 listed_after fails call fits = at (nat_lt call (2 ^ 64 - 1)) refl where
   at : (b : Bool) → nat_lt call (2 ^ 64 - 1) ≡ b
-      → listed_before (min (call + 1) (2 ^ 64 - 1)) fails ≡ listed_before call fails + (if is_listed fails call then 1 else 0)
+      → listed_before (min (call + 1) (2 ^ 64 - 1)) fails
+      ≡ listed_before call fails + (if is_listed fails call then 1 else 0)
   at true below =
       let less : call < 2 ^ 64 - 1 = ltb-true call (2 ^ 64 - 1) below in
       let next : min (call + 1) (2 ^ 64 - 1) ≡ suc call = omega arith in
@@ -26,11 +28,13 @@ listed_after fails call fits = at (nat_lt call (2 ^ 64 - 1)) refl where
       let same : min (call + 1) (2 ^ 64 - 1) ≡ call = omega arith in
       let passes : is_listed fails call ≡ false =
       and_right (list_any (λ k. nat_eq k call) fails) _ above in
-      let none : listed_before call fails ≡ listed_before call fails + (if is_listed fails call then 1 else 0) = rw passes (omega arith) in
+      let none : listed_before call fails ≡ listed_before call fails + (if is_listed fails call then 1 else 0) =
+      rw passes (omega arith) in
       ap (λ n. listed_before n fails) same ∙ none
 
 -- a later call has as many faults before it or more
-pub listed_later : (fails : List ℕ) (call : ℕ) → call < 2 ^ 64 → listed_before call fails ≤ listed_before (min (call + 1) (2 ^ 64 - 1)) fails
+pub listed_later : (fails : List ℕ) (call : ℕ) → call < 2 ^ 64
+    → listed_before call fails ≤ listed_before (min (call + 1) (2 ^ 64 - 1)) fails
 listed_later fails call fits = let next = listed_after fails call fits in omega (arith, next)
 
 -- a call that is to fail lets the count rise

@@ -21,10 +21,12 @@ front_grows old room following filled count in_range fits =
     let len : length (take filled old) ≡ filled = grind (arith, length-take) in
     let split = take-append-add (take filled old) (room ++ following) count in
     let cut = take-append-le count room following fits in
-    ap (λ n. take (n + count) (take filled old ++ (room ++ following))) (sym len) ∙ split ∙ ap (λ l. take filled old ++ l) cut
+    ap (λ n. take (n + count) (take filled old ++ (room ++ following))) (sym len) ∙ split
+    ∙ ap (λ l. take filled old ++ l) cut
 
 -- what was read as the first `filled` bytes goes on with what a read gave into the room after them
-pub gave_more : {E : Type 0} (a b c : Option (List ℕ)) (old room following : List ℕ) (filled : ℕ) (result : Result ℕ E) → filled ≤ length old
+pub gave_more : {E : Type 0} (a b c : Option (List ℕ)) (old room following : List ℕ) (filled : ℕ)
+    (result : Result ℕ E) → filled ≤ length old
     → IfOk result (λ n. n ≤ length room) → ReadConsumes b c result room → Consumes a b (take filled old)
     → IfOk result (λ n. Consumes a c (take (filled + n) (take filled old ++ (room ++ following))))
 gave_more a b c old room following filled (Ok n) in_range fits read first =

@@ -19,18 +19,19 @@ pub record IsCalled (old new : NamedFile) : Type 0 where
   pub fails : new.fails ≡ old.fails
   pub calls : new.calls ≡ min (old.calls + 1) (2 ^ 64 - 1)
 
-place_in-set : (files : List NamedFile) (i : ℕ) (file new : NamedFile) (name : List ℕ) → slice_get files i ≡ Some file → new.name ≡ file.name
-    → place_in (set files i new) name ≡ place_in files name
+place_in-set : (files : List NamedFile) (i : ℕ) (file new : NamedFile) (name : List ℕ) → slice_get files i ≡ Some file
+    → new.name ≡ file.name → place_in (set files i new) name ≡ place_in files name
 place_in-set [] i file new name there same = cc
 place_in-set (f ∷ fs) zero file new name there same =
     let e : new.name ≡ f.name = cc in
-    ap (λ n. or_else (option_map (λ k. k + 1) (place_in fs name)) (if bytes_eq (string_bytes n) name then Some 0 else None)) e
+    ap (λ n. or_else (option_map (λ k. k + 1) (place_in fs name))
+    (if bytes_eq (string_bytes n) name then Some 0 else None)) e
 place_in-set (f ∷ fs) (suc i) file new name there same =
     let head = if bytes_eq (string_bytes f.name) name then Some 0 else None in
     ap (λ p. or_else (option_map (λ k. k + 1) p) head) (place_in-set fs i file new name there same)
 
-bytes_at-set : (files : List NamedFile) (i k : ℕ) (file new : NamedFile) → slice_get files i ≡ Some file → new.bytes ≡ file.bytes
-    → bytes_at (set files i new) k ≡ bytes_at files k
+bytes_at-set : (files : List NamedFile) (i k : ℕ) (file new : NamedFile) → slice_get files i ≡ Some file
+    → new.bytes ≡ file.bytes → bytes_at (set files i new) k ≡ bytes_at files k
 bytes_at-set [] i k file new there same = cc
 bytes_at-set (f ∷ fs) zero zero file new there same =
     let e : new.bytes ≡ f.bytes = cc in ap (λ b. b.items) e
@@ -39,34 +40,40 @@ bytes_at-set (f ∷ fs) (suc i) zero file new there same = refl
 bytes_at-set (f ∷ fs) (suc i) (suc k) file new there same = bytes_at-set fs i k file new there same
 
 faults_in-set : (files : List NamedFile) (i : ℕ) (file new : NamedFile) → slice_get files i ≡ Some file
-    → faults_in (set files i new) + listed_before file.calls file.fails.items ≡ faults_in files + listed_before new.calls new.fails.items
+    → faults_in (set files i new) + listed_before file.calls file.fails.items
+    ≡ faults_in files + listed_before new.calls new.fails.items
 faults_in-set [] i file new there = cc
 faults_in-set (f ∷ fs) zero file new there =
     let s : f ≡ file = cc in
-    let e : listed_before f.calls f.fails.items ≡ listed_before file.calls file.fails.items = ap (λ x. listed_before x.calls x.fails.items) s in
+    let e : listed_before f.calls f.fails.items ≡ listed_before file.calls file.fails.items =
+    ap (λ x. listed_before x.calls x.fails.items) s in
     omega arith
 faults_in-set (f ∷ fs) (suc i) file new there =
     let rest = faults_in-set fs i file new there in omega (arith, rest)
 
 -- one file is the same after one call more, and the others stay
-pub counted : (files : List NamedFile) (i : ℕ) (file new : NamedFile) → slice_get files i ≡ Some file → file.calls < 2 ^ 64
-    → IsCalled file new → CallsOneFile files (set files i new) i
+pub counted : (files : List NamedFile) (i : ℕ) (file new : NamedFile) → slice_get files i ≡ Some file
+    → file.calls < 2 ^ 64 → IsCalled file new → CallsOneFile files (set files i new) i
 counted files i file new there fits called =
     let old_faults = listed_before file.calls file.fails.items in
     let new_faults = listed_before (min (file.calls + 1) (2 ^ 64 - 1)) file.fails.items in
     let moved = faults_in-set files i file new there in
     let same : new.fails.items ≡ file.fails.items = ap (λ v. v.items) called.fails in
     let count : listed_before new.calls new.fails.items ≡ new_faults = cc (called.calls) in
-    let after : new_faults ≡ old_faults + (if is_listed file.fails.items file.calls then 1 else 0) = listed_after file.fails.items file.calls fits in
+    let after : new_faults ≡ old_faults + (if is_listed file.fails.items file.calls then 1 else 0) =
+    listed_after file.fails.items file.calls fits in
     let next : is_next_listed files i ≡ is_listed file.fails.items file.calls =
     ap (λ o. option_map_or fails_next (option_map file_plan o) false) there in
-    let written : slice_get (set files i new) i ≡ Some new = slice_get-set_same files i new (slice_get_within files i file there) in
-    let plan : file_plan new ≡ after_call (file_plan file) = ap₂ (λ n ks. record { calls = n; fails = ks }) called.calls same in
+    let written : slice_get (set files i new) i ≡ Some new =
+    slice_get-set_same files i new (slice_get_within files i file there) in
+    let plan : file_plan new ≡ after_call (file_plan file) =
+    ap₂ (λ n ks. record { calls = n; fails = ks }) called.calls same in
     record {
       same_length = length-set _ _ _;
       same_places = λ name. place_in-set files i file new name there called.name;
       same_bytes = λ k. bytes_at-set files i k file new there called.bytes;
-      counted = ap (option_map file_plan) written ∙ ap Some plan ∙ ap (λ o. option_map after_call (option_map file_plan o)) (sym there);
+      counted = ap (option_map file_plan) written ∙ ap Some plan
+          ∙ ap (λ o. option_map after_call (option_map file_plan o)) (sym there);
       others_same = λ k apart. ap (option_map file_plan) (slice_get-set_other files i k new apart);
       faults_now = rw next (omega (arith, moved, count, after));
     }
@@ -83,7 +90,8 @@ found_after (f ∷ fs) name (suc i) k found =
 
 -- the name stands at i and at no later place
 pub found_at : (files : List NamedFile) (name : List ℕ) (i n : ℕ) (d : NamedFile) → i + 1 ≡ n → n ≤ length files
-    → place_in (drop n files) name ≡ None → bytes_eq (string_bytes (get_or files i d).name) name ≡ true → Some i ≡ place_in files name
+    → place_in (drop n files) name ≡ None → bytes_eq (string_bytes (get_or files i d).name) name ≡ true
+    → Some i ≡ place_in files name
 found_at files name i n d next in_range later here =
     let inside : i < length files = omega arith in
     let following : suc i ≡ n = omega arith in

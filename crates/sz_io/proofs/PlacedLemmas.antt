@@ -28,16 +28,23 @@ placed_kept old new opened i called placed number place there =
 pub placed_set : (files : List NamedFile) (opened : List Place) (k : ℕ) (place : Place) → IsPlaced files place
     → ArePlaced files opened → ArePlaced files (set opened k place)
 placed_set files opened k place here placed number other there =
-    elim (slice_get-set opened k number place other there) [ inl same ↦ subst (IsPlaced files) (sym same) here | inr was ↦ placed number other was ]
+    elim (slice_get-set opened k number place other there) [
+      | inl same ↦ subst (IsPlaced files) (sym same) here
+      | inr was ↦ placed number other was
+    ]
 
 pub placed_push : (files : List NamedFile) (opened : List Place) (place : Place) → IsPlaced files place
     → ArePlaced files opened → ArePlaced files (opened ++ place ∷ [])
 placed_push files opened place here placed number other there =
-    elim (slice_get-push opened number place other there) [ inl same ↦ subst (IsPlaced files) (sym same) here | inr was ↦ placed number other was ]
+    elim (slice_get-push opened number place other there) [
+      | inl same ↦ subst (IsPlaced files) (sym same) here
+      | inr was ↦ placed number other was
+    ]
 
 pub bytes_at-push_old : (files : List NamedFile) (file : NamedFile) (i : ℕ) → i < length files
     → bytes_at (files ++ file ∷ []) i ≡ bytes_at files i
-bytes_at-push_old files file i inside = ap (λ o. option_map_or (λ f. f.bytes.items) o []) (slice_get-push_old files i file inside)
+bytes_at-push_old files file i inside =
+    ap (λ o. option_map_or (λ f. f.bytes.items) o []) (slice_get-push_old files i file inside)
 
 pub placed_more : (files : List NamedFile) (opened : List Place) (file : NamedFile) → ArePlaced files opened
     → ArePlaced (files ++ file ∷ []) opened
@@ -59,11 +66,13 @@ left_in-called old new opened i number called = at (slice_get opened number) whe
 
 pub left_in-set_other : (files : List NamedFile) (opened : List Place) (k j : ℕ) (place : Place) → j ≢ k
     → left_in files (set opened k place) j ≡ left_in files opened j
-left_in-set_other files opened k j place apart = ap (option_and_then (rest_of files)) (slice_get-set_other opened k j place apart)
+left_in-set_other files opened k j place apart =
+    ap (option_and_then (rest_of files)) (slice_get-set_other opened k j place apart)
 
 pub left_in-push_old : (files : List NamedFile) (opened : List Place) (j : ℕ) (place : Place) → j < length opened
     → left_in files (opened ++ place ∷ []) j ≡ left_in files opened j
-left_in-push_old files opened j place inside = ap (option_and_then (rest_of files)) (slice_get-push_old opened j place inside)
+left_in-push_old files opened j place inside =
+    ap (option_and_then (rest_of files)) (slice_get-push_old opened j place inside)
 
 pub left_in-push_new : (files : List NamedFile) (opened : List Place) (place : Place)
     → left_in files (opened ++ place ∷ []) (length opened) ≡ rest_of files place
@@ -71,20 +80,23 @@ left_in-push_new files opened place = ap (option_and_then (rest_of files)) (slic
 
 -- ---- a file more
 
-pub left_in-more : (files : List NamedFile) (opened : List Place) (file : NamedFile) (number : ℕ) → ArePlaced files opened
-    → left_in (files ++ file ∷ []) opened number ≡ left_in files opened number
+pub left_in-more : (files : List NamedFile) (opened : List Place) (file : NamedFile) (number : ℕ)
+    → ArePlaced files opened → left_in (files ++ file ∷ []) opened number ≡ left_in files opened number
 left_in-more files opened file number placed = at (slice_get opened number) refl where
   at : (o : Option Place) → slice_get opened number ≡ o
       → option_and_then (rest_of (files ++ file ∷ [])) o ≡ option_and_then (rest_of files) o
   at None there = refl
   at (Some place) there =
-      ap (λ bytes. Some (drop place.at bytes)) (bytes_at-push_old files file place.file (placed number place there).known)
+      ap (λ bytes. Some (drop place.at bytes))
+      (bytes_at-push_old files file place.file (placed number place there).known)
 
-pub bytes_named-called : (old new : List NamedFile) (i : ℕ) (name : List ℕ) → CallsOneFile old new i → bytes_named new name ≡ bytes_named old name
-bytes_named-called old new i name called = ap (option_map (bytes_at new)) (called.same_places name) ∙ at (place_in old name) where
-  at : (p : Option ℕ) → option_map (bytes_at new) p ≡ option_map (bytes_at old) p
-  at None = refl
-  at (Some k) = ap Some (called.same_bytes k)
+pub bytes_named-called : (old new : List NamedFile) (i : ℕ) (name : List ℕ) → CallsOneFile old new i
+    → bytes_named new name ≡ bytes_named old name
+bytes_named-called old new i name called = ap (option_map (bytes_at new)) (called.same_places name)
+    ∙ at (place_in old name) where
+      at : (p : Option ℕ) → option_map (bytes_at new) p ≡ option_map (bytes_at old) p
+      at None = refl
+      at (Some k) = ap Some (called.same_bytes k)
 
 -- ---- the files in their vector
 
@@ -112,13 +124,16 @@ module _ (files new : List NamedFile) (opened : List Place) (file : NamedFile) (
 
   pub left_in-pushed : (b : Bool) (number : ℕ) → new ≡ (if b then files ++ file ∷ [] else files)
       → left_in new opened number ≡ left_in files opened number
-  left_in-pushed true number same = ap (λ l. left_in l opened number) same ∙ left_in-more files opened file number placed
+  left_in-pushed true number same = ap (λ l. left_in l opened number) same
+      ∙ left_in-more files opened file number placed
   left_in-pushed false number same = ap (λ l. left_in l opened number) same
 
 -- an opened file more, or none
 pub placed_opened : (files : List NamedFile) (opened new : List Place) (place : Place) (b : Bool)
-    → new ≡ (if b then opened ++ place ∷ [] else opened) → IsPlaced files place → ArePlaced files opened → ArePlaced files new
-placed_opened files opened new place true same here placed = subst (ArePlaced files) (sym same) (placed_push files opened place here placed)
+    → new ≡ (if b then opened ++ place ∷ [] else opened) → IsPlaced files place → ArePlaced files opened
+    → ArePlaced files new
+placed_opened files opened new place true same here placed =
+    subst (ArePlaced files) (sym same) (placed_push files opened place here placed)
 placed_opened files opened new place false same here placed = subst (ArePlaced files) (sym same) placed
 
 -- the start of a file is a place in it
@@ -140,7 +155,8 @@ module _ (old new : List NamedFile) (i : ℕ) (called : CallsOneFile old new i) 
   -- those opened before have what they had
   pub left_in-before : (place : Place) (number : ℕ) → number < length opened
       → left_in new (opened ++ place ∷ []) number ≡ left_in old opened number
-  left_in-before place number inside = left_in-push_old new opened number place inside ∙ left_in-called old new opened i number called
+  left_in-before place number inside = left_in-push_old new opened number place inside
+      ∙ left_in-called old new opened i number called
 
 -- a push that succeeded
 pub pushed_if : {X : Type 0} (b : Bool) (old new : List X) (x : X) → b ≡ true

@@ -12,11 +12,13 @@ use Rattle.sz_io.specs.Rose.{faults_after}
 use Rattle.sz_io.specs.Placed.{ArePlaced}
 use Rattle.sz_io.proofs.Gets.{slice_get-push_old, slice_get-push_new, slice_get-push_other}
 
-plan_at-push_old : (files : List NamedFile) (file : NamedFile) (i : ℕ) → i < length files → plan_at (files ++ file ∷ []) i ≡ plan_at files i
+plan_at-push_old : (files : List NamedFile) (file : NamedFile) (i : ℕ) → i < length files
+    → plan_at (files ++ file ∷ []) i ≡ plan_at files i
 plan_at-push_old files file i inside = ap (option_map file_plan) (slice_get-push_old files i file inside)
 
 -- a new file has its own plan
-pub plan_at-push_new : (files : List NamedFile) (file : NamedFile) → plan_at (files ++ file ∷ []) (length files) ≡ Some (file_plan file)
+pub plan_at-push_new : (files : List NamedFile) (file : NamedFile)
+    → plan_at (files ++ file ∷ []) (length files) ≡ Some (file_plan file)
 plan_at-push_new files file = ap (option_map file_plan) (slice_get-push_new files file)
 
 -- there is no plan after the files
@@ -25,12 +27,13 @@ plan_at-end [] = refl
 plan_at-end (f ∷ fs) = plan_at-end fs
 
 -- no other file has another plan
-pub plan_at-push_other : (files : List NamedFile) (file : NamedFile) (i : ℕ) → i ≢ length files → plan_at (files ++ file ∷ []) i ≡ plan_at files i
+pub plan_at-push_other : (files : List NamedFile) (file : NamedFile) (i : ℕ) → i ≢ length files
+    → plan_at (files ++ file ∷ []) i ≡ plan_at files i
 plan_at-push_other files file i apart = ap (option_map file_plan) (slice_get-push_other files i file apart)
 
 -- an opened file has the plan that it had, after a push that may have failed
-pub plan-pushed : (files new : List NamedFile) (opened : List Place) (file : NamedFile) → ArePlaced files opened → (b : Bool) (number : ℕ)
-    → new ≡ (if b then files ++ file ∷ [] else files)
+pub plan-pushed : (files new : List NamedFile) (opened : List Place) (file : NamedFile) → ArePlaced files opened
+    → (b : Bool) (number : ℕ) → new ≡ (if b then files ++ file ∷ [] else files)
     → option_and_then (plan_at new) (option_map (λ place. place.file) (slice_get opened number))
     ≡ option_and_then (plan_at files) (option_map (λ place. place.file) (slice_get opened number))
 plan-pushed files new opened file placed false number same =
@@ -58,19 +61,24 @@ faults_counted misses old new true more = omega (arith, more)
 faults_counted misses old new false same = omega (arith, same)
 
 -- a call on the file at a place, which is the file that it was made on
-module _ (old new : List NamedFile) (i : ℕ) (file : Option ℕ) (found : Some i ≡ file) (called : CallsOneFile old new i) where
-  pub file_fails : i < length old → option_map_or fails_next (option_and_then (plan_at old) file) true ≡ is_next_listed old i
-  file_fails inside = ap (λ f. option_map_or fails_next (option_and_then (plan_at old) f) true) (sym found) ∙ plan_known old i inside
+module _ (old new : List NamedFile) (i : ℕ) (file : Option ℕ) (found : Some i ≡ file)
+    (called : CallsOneFile old new i) where
+  pub file_fails : i < length old
+      → option_map_or fails_next (option_and_then (plan_at old) file) true ≡ is_next_listed old i
+  file_fails inside = ap (λ f. option_map_or fails_next (option_and_then (plan_at old) f) true) (sym found)
+      ∙ plan_known old i inside
 
   pub file_counted : option_and_then (plan_at new) file ≡ option_map after_call (option_and_then (plan_at old) file)
   file_counted =
-      ap (option_and_then (plan_at new)) (sym found) ∙ called.counted ∙ ap (λ f. option_map after_call (option_and_then (plan_at old) f)) found
+      ap (option_and_then (plan_at new)) (sym found) ∙ called.counted
+      ∙ ap (λ f. option_map after_call (option_and_then (plan_at old) f)) found
 
   pub file_others : (other : ℕ) → Some other ≢ file → plan_at new other ≡ plan_at old other
   file_others other apart = called.others_same other (λ e. apart (ap Some e ∙ found))
 
 -- one file more was opened: the next number stands for it, and every other number for what it stood for
-pub following-push : (opened : List Place) (place : Place) (number next : ℕ) (file : Option ℕ) → Some place.file ≡ file → next ≡ length opened
+pub following-push : (opened : List Place) (place : Place) (number next : ℕ) (file : Option ℕ)
+    → Some place.file ≡ file → next ≡ length opened
     → option_map (λ p. p.file) (slice_get (opened ++ place ∷ []) number)
     ≡ (if number == next then file else option_map (λ p. p.file) (slice_get opened number))
 following-push opened place number next file same end = at (number == next) refl where
@@ -87,10 +95,12 @@ following-push opened place number next file same end = at (number == next) refl
       rw (apart, got) refl
 
 -- a place that moved in its file: every number stands for the file that it stood for
-pub following-set : (opened : List Place) (k number : ℕ) (place moved : Place) → slice_get opened k ≡ Some place → moved.file ≡ place.file
-    → option_map (λ p. p.file) (slice_get (set opened k moved) number) ≡ option_map (λ p. p.file) (slice_get opened number)
+pub following-set : (opened : List Place) (k number : ℕ) (place moved : Place) → slice_get opened k ≡ Some place
+    → moved.file ≡ place.file → option_map (λ p. p.file) (slice_get (set opened k moved) number)
+    ≡ option_map (λ p. p.file) (slice_get opened number)
 following-set [] k number place moved there same = refl
-following-set (p ∷ ps) zero zero place moved there same = let e : p ≡ place = cc in ap Some (same ∙ ap (λ q. q.file) (sym e))
+following-set (p ∷ ps) zero zero place moved there same = let e : p ≡ place = cc in
+    ap Some (same ∙ ap (λ q. q.file) (sym e))
 following-set (p ∷ ps) zero (suc number) place moved there same = refl
 following-set (p ∷ ps) (suc k) zero place moved there same = refl
 following-set (p ∷ ps) (suc k) (suc number) place moved there same = following-set ps k number place moved there same

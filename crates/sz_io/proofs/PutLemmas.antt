@@ -10,7 +10,8 @@ use Rattle.sz_io.specs.NamedFiles.{or_else, place_in, bytes_at, bytes_named, fau
 use Rattle.sz_io.proofs.Gets.{slice_get-push_new}
 use Rattle.sz_io.proofs.PlacedLemmas.{bytes_at-push_old}
 
-faults_in-more : (files : List NamedFile) (file : NamedFile) → file.calls ≡ 0 → faults_in (files ++ file ∷ []) ≡ faults_in files
+faults_in-more : (files : List NamedFile) (file : NamedFile) → file.calls ≡ 0
+    → faults_in (files ++ file ∷ []) ≡ faults_in files
 faults_in-more [] file fresh =
     let e : listed_before file.calls file.fails.items ≡ 0 =
     ap (λ n. listed_before n file.fails.items) fresh in
@@ -18,12 +19,14 @@ faults_in-more [] file fresh =
 faults_in-more (f ∷ fs) file fresh = let rest = faults_in-more fs file fresh in omega (arith, rest)
 
 place_in-step : (b : Bool) (p head : Option ℕ) (n : ℕ)
-    → or_else (option_map (λ i. i + 1) (if b then Some n else p)) head ≡ (if b then Some (n + 1) else or_else (option_map (λ i. i + 1) p) head)
+    → or_else (option_map (λ i. i + 1) (if b then Some n else p)) head
+    ≡ (if b then Some (n + 1) else or_else (option_map (λ i. i + 1) p) head)
 place_in-step true p head n = refl
 place_in-step false p head n = refl
 
 place_in-more : (files : List NamedFile) (file : NamedFile) (name : List ℕ)
-    → place_in (files ++ file ∷ []) name ≡ (if bytes_eq (string_bytes file.name) name then Some (length files) else place_in files name)
+    → place_in (files ++ file ∷ []) name
+    ≡ (if bytes_eq (string_bytes file.name) name then Some (length files) else place_in files name)
 place_in-more [] file name = refl
 place_in-more (f ∷ fs) file name =
     let head : Option ℕ = if bytes_eq (string_bytes f.name) name then Some 0 else None in
@@ -46,13 +49,15 @@ place_in-inside (f ∷ fs) name i found =
 pub place_in-put_same : (files : List NamedFile) (file : NamedFile) (name : List ℕ) → string_bytes file.name ≡ name
     → place_in (files ++ file ∷ []) name ≡ Some (length files)
 place_in-put_same files file name same =
-    let equal : bytes_eq (string_bytes file.name) name ≡ true = (bytes_eq-Decides (string_bytes file.name) name).1 same in
+    let equal : bytes_eq (string_bytes file.name) name ≡ true =
+    (bytes_eq-Decides (string_bytes file.name) name).1 same in
     place_in-more files file name ∙ ap (λ b. if b then Some (length files) else place_in files name) equal
 
 pub place_in-put_other : (files : List NamedFile) (file : NamedFile) (name : List ℕ) → (string_bytes file.name ≢ name)
     → place_in (files ++ file ∷ []) name ≡ place_in files name
 place_in-put_other files file name apart =
-    let unequal : bytes_eq (string_bytes file.name) name ≡ false = grind (arith, bytes_eq-Decides (string_bytes file.name) name, apart) in
+    let unequal : bytes_eq (string_bytes file.name) name ≡ false =
+    grind (arith, bytes_eq-Decides (string_bytes file.name) name, apart) in
     place_in-more files file name ∙ ap (λ b. if b then Some (length files) else place_in files name) unequal
 
 -- the new file is what its name holds
@@ -63,11 +68,13 @@ bytes_named-put_same files file name same =
     ∙ ap (λ o. Some (option_map_or (λ f. f.bytes.items) o [])) (slice_get-push_new files file)
 
 -- another name has the bytes that it had
-pub bytes_named-put_other : (files : List NamedFile) (file : NamedFile) (name : List ℕ) → (string_bytes file.name ≢ name)
-    → bytes_named (files ++ file ∷ []) name ≡ bytes_named files name
+pub bytes_named-put_other : (files : List NamedFile) (file : NamedFile) (name : List ℕ)
+    → (string_bytes file.name ≢ name) → bytes_named (files ++ file ∷ []) name ≡ bytes_named files name
 bytes_named-put_other files file name apart =
-    ap (option_map (bytes_at (files ++ file ∷ []))) (place_in-put_other files file name apart) ∙ at (place_in files name) refl where
-      at : (p : Option ℕ) → place_in files name ≡ p → option_map (bytes_at (files ++ file ∷ [])) p ≡ option_map (bytes_at files) p
+    ap (option_map (bytes_at (files ++ file ∷ []))) (place_in-put_other files file name apart)
+    ∙ at (place_in files name) refl where
+      at : (p : Option ℕ) → place_in files name ≡ p
+          → option_map (bytes_at (files ++ file ∷ [])) p ≡ option_map (bytes_at files) p
       at None found = refl
       at (Some i) found = ap Some (bytes_at-push_old files file i (place_in-inside files name i found))
 

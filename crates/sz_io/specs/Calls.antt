@@ -49,4 +49,5 @@ pub record AppendsPart (old new : Option (List ℕ)) (bytes : List ℕ) : Type 0
 pub record GainsLine {S : Type 0} (the_sink : sink.Ghosts S) (old new : S) (line : List ℕ) : Type 0 where
   pub count : ℕ
   pub appends : Appends (the_sink.taken old) (the_sink.taken new) (take count line)
-  pub whole : (length line ≤ count) ⊎ (Rose (the_sink.faults old) (the_sink.faults new) ⊎ Rose (the_sink.refusals old) (the_sink.refusals new))
+  pub whole : (length line ≤ count)
+      ⊎ (Rose (the_sink.faults old) (the_sink.faults new) ⊎ Rose (the_sink.refusals old) (the_sink.refusals new))

@@ -63,7 +63,8 @@ CallsByName old new name (Ok number) = CallsFile old new (file_of old name) fals
 CallsByName old new name (Err Failed) = CallsFile old new (file_of old name) true
 CallsByName old new name (Err NoMemory) = CallsNone old new
 
--- the file under a number after a call of `open_file` on this one: the number answered has it, and the others what they had
+-- the file under a number after a call of `open_file` on this one: the number answered has it, and the others what
+-- they had
 abbrev pub after_after : (ℕ → Option ℕ) → Option ℕ → Result ℕ OutsideError → ℕ → Option ℕ
 after_after following file (Ok answered) number = if number == answered then file else following number
 after_after following file (Err error) number = following number
@@ -80,7 +81,8 @@ pub record IsEmpty (files : MemFiles) : Type 0 where
   pub opened_none : names_opened files ≡ []
   pub no_fault : files_faults files ≡ 0
 
--- every number stands for the same file with the same bytes left, and the names opened and the count of faults are the same
+-- every number stands for the same file with the same bytes left, and the names opened and the count of faults are
+-- the same
 pub record SameOpened (old new : MemFiles) : Type 0 where
   pub left_same : (number : ℕ) → left_bytes new number ≡ left_bytes old number
   pub after_same : (number : ℕ) → file_after new number ≡ file_after old number

@@ -17,7 +17,8 @@ or_else None other = other
 abbrev pub place_in : List NamedFile → List ℕ → Option ℕ
 place_in [] name = None
 place_in (file ∷ files) name =
-    or_else (option_map (λ i. i + 1) (place_in files name)) (if bytes_eq (string_bytes file.name) name then Some 0 else None)
+    or_else (option_map (λ i. i + 1) (place_in files name))
+    (if bytes_eq (string_bytes file.name) name then Some 0 else None)
 
 -- the bytes of the file at a place
 abbrev pub bytes_at : List NamedFile → ℕ → List ℕ

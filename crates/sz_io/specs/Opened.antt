@@ -23,7 +23,8 @@ faults_after_opening faults (Err NoMemory) = faults
 
 -- From one moment to a later one the bytes under each name are the same, each number given stays given and has the
 -- same bytes left, and the count of faults does not fall; where it stands at 2^64 - 1, it stays there.
-pub record KeepsFiles {S : Type 0} (held : S → List ℕ → Option (List ℕ)) (left : S → ℕ → Option (List ℕ)) (given : S → ℕ → Bool)
+pub record KeepsFiles {S : Type 0} (held : S → List ℕ → Option (List ℕ)) (left : S → ℕ → Option (List ℕ))
+    (given : S → ℕ → Bool)
     (faults : S → ℕ) (old new : S) : Type 0 where
   pub held_same : (name : List ℕ) → held new name ≡ held old name
   pub left_same : (file : ℕ) → IsTrue (given old file) → left new file ≡ left old file
@@ -33,7 +34,8 @@ pub record KeepsFiles {S : Type 0} (held : S → List ℕ → Option (List ℕ))
 
 -- A read of this file leaves the bytes under each name, the bytes left of every other file, the numbers given and the
 -- names opened, and the count of faults does not fall; where it stands at 2^64 - 1, it stays there.
-pub record KeepsOtherFiles {S : Type 0} (held : S → List ℕ → Option (List ℕ)) (left : S → ℕ → Option (List ℕ)) (given : S → ℕ → Bool)
+pub record KeepsOtherFiles {S : Type 0} (held : S → List ℕ → Option (List ℕ)) (left : S → ℕ → Option (List ℕ))
+    (given : S → ℕ → Bool)
     (names : S → List (List ℕ)) (faults : S → ℕ) (file : ℕ) (old new : S) : Type 0 where
   pub held_same : (name : List ℕ) → held new name ≡ held old name
   pub left_same : (other : ℕ) → other ≢ file → left new other ≡ left old other

@@ -7,7 +7,8 @@ use Rattle.std.specs.declared.io.traits.BufRead as Buffering
 use Rattle.sz_io.specs.declared.os_files.OsFiles.{OsFiles}
 
 -- over a runtime of type R, with its types of files, folders and input, and what these tell of themselves
-module _ {R File Folder Input : Type 0} {reads : Reading.Ghosts File} {writes : Writing.Ghosts File} {seeks : Seeking.Ghosts File}
+module _ {R File Folder Input : Type 0} {reads : Reading.Ghosts File} {writes : Writing.Ghosts File}
+    {seeks : Seeking.Ghosts File}
     {lists : Reading.Ghosts Folder} {buffers : Buffering.Ghosts Input} {enters : Reading.Ghosts Input} where
   -- the names opened
   abbrev pub system_names : OsFiles R File Folder Input reads writes seeks lists buffers enters → List (List ℕ)

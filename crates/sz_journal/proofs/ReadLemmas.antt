@@ -1,10 +1,10 @@
 -- Rounds that are read one after the other.
 use Rattle.std.proofs.Common.{◌≡◌, ℕ, ◌+◌, ◌<◌, List, [], length, Option, Some, Bool, true, false, true≢false, Result, Ok, Err, sym, ◌∙◌, ap, subst, arith}
 use Rattle.sz_types.specs.Tables.{Declaration}
-use Rattle.sz_journal_format.specs.Jobs.{job_bytes}
-use Rattle.sz_journal_format.specs.Rounds.{AreRounds}
-use Rattle.sz_journal_format.specs.declared.job.JobBytes.{JobBytes}
-use Rattle.sz_journal_format.specs.declared.round.RoundEntry.{RoundEntry}
+use Rattle.sz_journal.specs.Jobs.{job_bytes}
+use Rattle.sz_journal.specs.Rounds.{AreRounds}
+use Rattle.sz_journal.specs.declared.job.JobBytes.{JobBytes}
+use Rattle.sz_journal.specs.declared.round.RoundEntry.{RoundEntry}
 use Rattle.sz_journal.specs.declared.error.OpenError.{OpenError}
 use Rattle.sz_journal.specs.declared.journal.Journal.{Journal}
 use Rattle.sz_journal.specs.Journal.{rounds_of, end_gate}
@@ -15,7 +15,8 @@ use Rattle.sz_journal.proofs.SpellLemmas.{is_of_none}
 
 module _ (job : JobBytes) (decls : List Declaration) (bytes : Option (List ℕ)) (count : ℕ) where
   -- behind the entry of the job
-  pub at_first : (journal : Journal) (size : ℕ) → rounds_of journal ≡ [] → end_gate journal ≡ 9 + size → size ≡ length (job_bytes job) → 9 + size < count
+  pub at_first : (journal : Journal) (size : ℕ) → rounds_of journal ≡ [] → end_gate journal ≡ 9 + size
+      → size ≡ length (job_bytes job) → 9 + size < count
       → ((held : List ℕ) → bytes ≡ Some held → IsReadTo job [] held) → IsAt job decls journal bytes count
   at_first journal size none end size_is low read = record {
     is_of = is_of_none job journal none (end ∙ end_first job size size_is);
@@ -25,8 +26,8 @@ module _ (job : JobBytes) (decls : List Declaration) (bytes : Option (List ℕ))
   }
 
   -- the disk tells the same bytes
-  pub at_still : (journal : Journal) (told_later : Option (List ℕ)) → told_later ≡ bytes → IsAt job decls journal bytes count
-      → IsAt job decls journal told_later count
+  pub at_still : (journal : Journal) (told_later : Option (List ℕ)) → told_later ≡ bytes
+      → IsAt job decls journal bytes count → IsAt job decls journal told_later count
   at_still journal told_later same at = record {
     is_of = at.is_of;
     are = at.are;
@@ -42,12 +43,15 @@ module _ (job : JobBytes) (decls : List Declaration) (bytes : Option (List ℕ))
     turn_goes false fits is = absurd (true≢false (sym is))
 
     -- there is none
-    pub turn_ends : (more : Bool) → FitsTurn job decls bytes count old new (Ok more) → more ≡ false → HasAll job decls new bytes
+    pub turn_ends : (more : Bool) → FitsTurn job decls bytes count old new (Ok more) → more ≡ false
+        → HasAll job decls new bytes
     turn_ends true fits is = absurd (true≢false is)
     turn_ends false fits is = fits
 
     -- the journal isn't one of the job
-    pub turn_fails : (result : Result Journal OpenError) (error given : OpenError) → FitsTurn job decls bytes count old new (Err error)
+    pub turn_fails : (result : Result Journal OpenError) (error given : OpenError)
+        → FitsTurn job decls bytes count old new (Err error)
         → result ≡ Err given → given ≡ error → (held : List ℕ) → bytes ≡ Some held → FitsRead job decls held result
     turn_fails result error given fits is same held told =
-        subst (λ (r : Result Journal OpenError). FitsRead job decls held r) (sym (is ∙ ap (λ (e : OpenError). Err e) same)) (fits held told)
+        subst (λ (r : Result Journal OpenError). FitsRead job decls held r)
+        (sym (is ∙ ap (λ (e : OpenError). Err e) same)) (fits held told)

@@ -2,15 +2,15 @@
 use Rattle.std.proofs.Common.{◌≡◌, ℕ, ◌+◌, ◌<◌, List, length, drop, Vec, Option, Some, IfSome, Bool, Result, Err, sym, ◌∙◌, ap, subst, arith}
 use Rattle.std.specs.declared.alloc.Global.{Global}
 use Rattle.sz_types.specs.Tables.{Declaration}
-use Rattle.sz_gates.specs.Entries.{opened, end_of}
-use Rattle.sz_gates.specs.Calls.{HasEntry, StandsAt, IsWithin}
-use Rattle.sz_gates.specs.declared.reading.AtGate.{AtGate}
-use Rattle.sz_gates.specs.declared.reading.AtGate.TheVariants.{Closed, Entry, Ending, Cut}
-use Rattle.sz_gates.proofs.ForCallers.{opened_long}
-use Rattle.sz_journal_format.specs.Rounds.{AreRounds}
-use Rattle.sz_journal_format.specs.declared.job.JobBytes.{JobBytes}
-use Rattle.sz_journal_format.specs.declared.round.RoundEntry.{RoundEntry}
-use Rattle.sz_journal_rules.specs.Journals.{entries_of, Stands, DamagedAt}
+use Rattle.sz_disk.specs.Entries.{opened, end_of}
+use Rattle.sz_disk.specs.GateCalls.{HasEntry, StandsAt, IsWithin}
+use Rattle.sz_disk.specs.declared.reading.AtGate.{AtGate}
+use Rattle.sz_disk.specs.declared.reading.AtGate.TheVariants.{Closed, Entry, Ending, Cut}
+use Rattle.sz_disk.proofs.GateForCallers.{opened_long}
+use Rattle.sz_journal.specs.Rounds.{AreRounds}
+use Rattle.sz_journal.specs.declared.job.JobBytes.{JobBytes}
+use Rattle.sz_journal.specs.declared.round.RoundEntry.{RoundEntry}
+use Rattle.sz_journal.specs.Journals.{entries_of, Stands, DamagedAt}
 use Rattle.sz_journal.specs.declared.error.OpenError.{OpenError}
 use Rattle.sz_journal.specs.declared.error.OpenError.TheVariants as errors
 use Rattle.sz_journal.specs.declared.journal.Journal.{Journal}
@@ -21,7 +21,8 @@ use Rattle.sz_journal.proofs.SpellLemmas.{is_of_more}
 use Rattle.sz_journal.proofs.FirstLemmas.{told_at, stands_at}
 use Rattle.sz_journal.proofs.RoundLemmas.{ending_broken, cut_broken, closed_spelled, broken_damaged, other_damaged, read_more}
 
-module _ {job : JobBytes} {decls : List Declaration} {bytes : Option (List ℕ)} {count : ℕ} {journal : Journal} (at : IsAt job decls journal bytes count)
+module _ {job : JobBytes} {decls : List Declaration} {bytes : Option (List ℕ)} {count : ℕ} {journal : Journal}
+    (at : IsAt job decls journal bytes count)
     {gate : ℕ} (gate_is : gate ≡ end_gate journal) where
   abbrev rounds : List RoundEntry
   rounds = rounds_of journal
@@ -34,41 +35,50 @@ module _ {job : JobBytes} {decls : List Declaration} {bytes : Option (List ℕ)}
   here P stands held told =
       subst (λ (n : ℕ). P (drop n held)) end_is (told_at bytes held (λ (h : List ℕ). P (drop gate h)) stands told)
 
-  damaged : (held : List ℕ) → Stands job decls held (DamagedAt (end_of (entries_of job rounds))) → FitsError job decls held (errors.Damaged gate)
+  damaged : (held : List ℕ) → Stands job decls held (DamagedAt (end_of (entries_of job rounds)))
+      → FitsError job decls held (errors.Damaged gate)
   damaged held stands = subst (λ (n : ℕ). Stands job decls held (DamagedAt n)) (sym end_is) stands
 
   module _ {found : AtGate} (stands : IfSome bytes (λ held. StandsAt (drop gate held) found)) where
-    is_at : (other : AtGate) → found ≡ other → (held : List ℕ) → bytes ≡ Some held → StandsAt (drop (end_of (entries_of job rounds)) held) other
-    is_at other is held told = here (λ (l : List ℕ). StandsAt l other) (stands_at bytes gate found other is stands) held told
+    is_at : (other : AtGate) → found ≡ other → (held : List ℕ) → bytes ≡ Some held
+        → StandsAt (drop (end_of (entries_of job rounds)) held) other
+    is_at other is held told =
+        here (λ (l : List ℕ). StandsAt l other) (stands_at bytes gate found other is stands) held told
 
     -- the gate isn't open
     pub turn_closed : found ≡ Closed → HasAll job decls journal bytes
     turn_closed is = record {
       is_of = at.is_of;
       are = at.are;
-      spelled = λ held told. closed_spelled job decls rounds held (at.read held told) at.are (is_at Closed is held told);
+      spelled =
+          λ held told. closed_spelled job decls rounds held (at.read held told) at.are (is_at Closed is held told);
     }
 
     -- no gate stands behind the entry
-    pub turn_ending : (entry : Vec ℕ Global) → found ≡ Ending entry → (held : List ℕ) → bytes ≡ Some held → FitsError job decls held (errors.Damaged gate)
+    pub turn_ending : (entry : Vec ℕ Global) → found ≡ Ending entry → (held : List ℕ) → bytes ≡ Some held
+        → FitsError job decls held (errors.Damaged gate)
     turn_ending entry is held told =
         damaged held
-        (broken_damaged job decls rounds held (at.read held told) at.are (ending_broken entry.items _ (is_at (Ending entry) is held told)))
+        (broken_damaged job decls rounds held
+        (at.read held told) at.are (ending_broken entry.items _ (is_at (Ending entry) is held told)))
 
     -- no entry is whole
     pub turn_cut : found ≡ Cut → (held : List ℕ) → bytes ≡ Some held → FitsError job decls held (errors.Damaged gate)
     turn_cut is held told =
-        damaged held (broken_damaged job decls rounds held (at.read held told) at.are (cut_broken _ (is_at Cut is held told)))
+        damaged held
+        (broken_damaged job decls rounds held (at.read held told) at.are (cut_broken _ (is_at Cut is held told)))
 
-  module _ {found : AtGate} {behind : Vec ℕ Global} {entry : List ℕ} (stands : IfSome bytes (λ held. StandsAt (drop gate held) found))
+  module _ {found : AtGate} {behind : Vec ℕ Global} {entry : List ℕ}
+      (stands : IfSome bytes (λ held. StandsAt (drop gate held) found))
       (found_is : found ≡ Entry behind) (entry_is : entry ≡ behind.items) (new : Journal) where
     has : (held : List ℕ) → bytes ≡ Some held → HasEntry entry (drop (end_of (entries_of job rounds)) held)
     has held told =
         subst (λ (e : List ℕ). HasEntry e (drop (end_of (entries_of job rounds)) held)) (sym entry_is)
-        (here (λ (l : List ℕ). HasEntry behind.items l) (stands_at bytes gate found (Entry behind) found_is stands) held told)
+        (here (λ (l : List ℕ). HasEntry behind.items l)
+        (stands_at bytes gate found (Entry behind) found_is stands) held told)
 
-    turn_refused : (error : OpenError) → FitsTaken job decls journal new entry (Err error) → (held : List ℕ) → bytes ≡ Some held
-        → FitsError job decls held error
+    turn_refused : (error : OpenError) → FitsTaken job decls journal new entry (Err error) → (held : List ℕ)
+        → bytes ≡ Some held → FitsError job decls held error
     turn_refused errors.OtherJob taken held told = absurd taken
     turn_refused (errors.Damaged place) taken held told =
         subst (λ (n : ℕ). Stands job decls held (DamagedAt n)) (sym (taken.0 ∙ at.is_of.end))
@@ -77,20 +87,23 @@ module _ {job : JobBytes} {decls : List Declaration} {bytes : Option (List ℕ)}
     turn_refused errors.NoMemory taken held told = tt
 
     -- the entry isn't that of a round that may be the next one
-    pub turn_failed : (result : Result Bool OpenError) (error given : OpenError) → FitsTaken job decls journal new entry (Err error)
+    pub turn_failed : (result : Result Bool OpenError) (error given : OpenError)
+        → FitsTaken job decls journal new entry (Err error)
         → result ≡ Err given → given ≡ error → FitsTurn job decls bytes count journal new result
     turn_failed result error given taken is same =
-        subst (λ (r : Result Bool OpenError). FitsTurn job decls bytes count journal new r) (sym (is ∙ ap (λ (e : OpenError). Err e) same))
-        (turn_refused error taken)
+        subst (λ (r : Result Bool OpenError). FitsTurn job decls bytes count journal new r)
+        (sym (is ∙ ap (λ (e : OpenError). Err e) same)) (turn_refused error taken)
 
     -- the entry is that of the next round
-    pub turn_more : HasTaken job decls journal new entry → IsWithin count gate found → IsAt job decls new bytes count × (end_gate journal < end_gate new)
+    pub turn_more : HasTaken job decls journal new entry → IsWithin count gate found
+        → IsAt job decls new bytes count × (end_gate journal < end_gate new)
     turn_more taken within = (
       record {
         is_of = is_of_more job journal new taken.round entry taken.is at.is_of taken.rounds taken.last taken.end;
         are = subst (λ (rs : List RoundEntry). AreRounds job decls rs) (sym taken.rounds) taken.are;
         here =
-            let low : gate + length (opened behind.items) < count = subst (λ (f : AtGate). IsWithin count gate f) found_is within in
+            let low : gate + length (opened behind.items) < count =
+            subst (λ (f : AtGate). IsWithin count gate f) found_is within in
             omega (arith, taken.end, low, gate_is, ap (λ (e : List ℕ). length (opened e)) entry_is);
         read = λ held told.
             subst (λ (rs : List RoundEntry). IsReadTo job rs held) (sym taken.rounds)

@@ -3,16 +3,15 @@ ghost use Rattle.std.specs.Prelude.{◌≡◌, ◌+◌, ◌<◌, ◌-◌, ◌^�
 ghost use Rattle.sz_types.specs.Tables.{Declaration};
 ghost use Rattle.sz_io.specs.Rose.{Rose};
 ghost use Rattle.sz_disk.specs.Crashes.{are_told};
-ghost use Rattle.sz_gates.specs.Crashing.{Rests, LeavesOnly, DoesNotFall};
-ghost use Rattle.sz_journal_format.specs.Rounds.{AreRounds};
-ghost use Rattle.sz_journal_format.specs.declared.job.JobBytes.{JobBytes};
-ghost use Rattle.sz_journal_rules.specs.Journals.{Spells};
+ghost use Rattle.sz_disk.specs.Crashing.{Rests, LeavesOnly, DoesNotFall};
+ghost use Rattle.sz_journal.specs.Rounds.{AreRounds};
+ghost use Rattle.sz_journal.specs.declared.job.JobBytes.{JobBytes};
+ghost use Rattle.sz_journal.specs.Journals.{Spells};
 
+use crate::{NoMemory, RoundEntries, RoundEntry, write_round};
 use std::alloc::Global;
-use sz_disk::Disk;
-use sz_gates::append;
+use sz_disk::{Disk, append};
 use sz_io::OutsideError;
-use sz_journal_format::{NoMemory, RoundEntries, RoundEntry, write_round};
 
 /// How many bytes a gate and a length have, which stand in front of an entry.
 pub(crate) const FRONT_BYTES: u64 = 9;

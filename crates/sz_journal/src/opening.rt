@@ -2,20 +2,19 @@
 ghost use Rattle.std.specs.Prelude.{◌≡◌, ℕ, List, [], ◌∷◌, length, None, IfOk, OnOk, IfSome, IsErrOf, Some, true};
 ghost use Rattle.sz_io.specs.Rose.{Rose};
 ghost use Rattle.sz_disk.specs.Crashes.{are_told};
-ghost use Rattle.sz_gates.specs.Entries.{opened, IsEmpty, IsEmptyOrHolds};
-ghost use Rattle.sz_gates.specs.Crashing.{Rests, LeavesOnly, DoesNotFall};
-ghost use Rattle.sz_gates.specs.Calls.{Keeps};
-ghost use Rattle.sz_journal_format.specs.Rounds.{AreRounds};
+ghost use Rattle.sz_disk.specs.Entries.{opened, IsEmpty, IsEmptyOrHolds};
+ghost use Rattle.sz_disk.specs.Crashing.{Rests, LeavesOnly, DoesNotFall};
+ghost use Rattle.sz_disk.specs.GateCalls.{Keeps};
+ghost use Rattle.sz_journal.specs.Rounds.{AreRounds};
 ghost use Rattle.sz_journal.specs.Journal.{rounds_of, end_gate, IsOf, KeepsRounds};
 ghost use Rattle.sz_journal.specs.Opening.{FitsAnswer, IsKept};
 
 use crate::error::OpenError;
 use crate::journal::Journal;
 use crate::reading::{has_job, read_rounds};
+use crate::{JobBytes, write_job};
 use std::alloc::Global;
-use sz_disk::Disk;
-use sz_gates::{begin, settle};
-use sz_journal_format::{JobBytes, write_job};
+use sz_disk::{Disk, begin, settle};
 use sz_types::TableDecls;
 
 /// Opens the journal of a job whose program declares these tables. An empty one begins with the job.

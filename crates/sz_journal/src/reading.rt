@@ -2,20 +2,19 @@
 ghost use Rattle.std.specs.Prelude.{◌≡◌, ◌↔◌, ◌+◌, ◌<◌, ◌-◌, ◌^◌, ℕ, List, [], length, IfOk, IfSome, IsErrOf, IsTrue, Some, true};
 ghost use Rattle.sz_types.specs.Tables.{Declaration};
 ghost use Rattle.sz_io.specs.Rose.{Rose};
-ghost use Rattle.sz_gates.specs.Entries.{opened};
-ghost use Rattle.sz_gates.specs.Crashing.{DoesNotFall, WritesNothing};
-ghost use Rattle.sz_journal_format.specs.Jobs.{job_bytes};
-ghost use Rattle.sz_journal_format.specs.Rounds.{AreRounds};
-ghost use Rattle.sz_journal_format.specs.declared.job.JobBytes as jobs;
+ghost use Rattle.sz_disk.specs.Entries.{opened};
+ghost use Rattle.sz_disk.specs.Crashing.{DoesNotFall, WritesNothing};
+ghost use Rattle.sz_journal.specs.Jobs.{job_bytes};
+ghost use Rattle.sz_journal.specs.Rounds.{AreRounds};
+ghost use Rattle.sz_journal.specs.declared.job.JobBytes as jobs;
 ghost use Rattle.sz_journal.specs.Journal.{rounds_of, end_gate, IsOf};
 ghost use Rattle.sz_journal.specs.Reading.{FitsRefused, FitsFirst, FitsTaken, IsAt, FitsTurn, FitsRead, IsReadTo};
 
 use crate::error::OpenError;
 use crate::journal::{FRONT_BYTES, Journal};
+use crate::{EntryError, JobBytes, may_be_next, read_job, read_round};
 use std::alloc::Global;
-use sz_disk::Disk;
-use sz_gates::{AtGate, read_gate};
-use sz_journal_format::{EntryError, JobBytes, may_be_next, read_job, read_round};
+use sz_disk::{AtGate, Disk, read_gate};
 use sz_types::TableDecls;
 
 // Whether a disk of `count` bytes begins with `own`, the entry of the job; false where the disk holds no entry.

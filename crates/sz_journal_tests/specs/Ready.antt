@@ -4,7 +4,7 @@ use Rattle.sz_types.specs.Tables.{Declaration}
 use Rattle.sz_disk.specs.Crashes.{told}
 use Rattle.sz_disk.specs.MemDisk.{disk_bytes, DiskLeaves}
 use Rattle.sz_disk.specs.declared.mem_disk.MemDisk.{MemDisk}
-use Rattle.sz_journal_format.specs.declared.job.JobBytes.{JobBytes}
+use Rattle.sz_journal.specs.declared.job.JobBytes.{JobBytes}
 use Rattle.sz_journal.specs.Journal.{rounds_of, IsOf, KeepsRounds}
 use Rattle.sz_journal.specs.declared.journal.Journal.{Journal}
 

@@ -1,9 +1,9 @@
 //! Which rounds may follow each other.
-ghost use Rattle.sz_journal_format.specs.Rounds.{AreRounds};
+ghost use Rattle.sz_journal.specs.Rounds.{AreRounds};
 
 use std::alloc::Global;
 use std::test::Fail;
-use sz_journal_format::{
+use sz_journal::{
     JobBytes, Numbers, RoundEntries, RoundEntry, Triples, last_progress, may_be_next,
 };
 use sz_save_format::{Saved, read_saved};

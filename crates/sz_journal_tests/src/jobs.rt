@@ -3,7 +3,7 @@
 use crate::rows::{JobRow, jobs, no_jobs};
 use std::alloc::Global;
 use std::test::Fail;
-use sz_journal_format::{EntryError, JobBytes, NoMemory, Numbers, Triples, read_job, write_job};
+use sz_journal::{EntryError, JobBytes, NoMemory, Numbers, Triples, read_job, write_job};
 use sz_value::Octets;
 
 // The job of a row.

@@ -7,8 +7,7 @@ use std::alloc::Global;
 use std::test::Fail;
 use sz_disk::MemDisk;
 use sz_io::NoMemory;
-use sz_journal::{Journal, OpenError, open_journal};
-use sz_journal_format::{JobBytes, RoundEntry, may_be_next};
+use sz_journal::{JobBytes, Journal, OpenError, RoundEntry, may_be_next, open_journal};
 use sz_save_format::{Saved, read_saved};
 use sz_types::TableDecls;
 

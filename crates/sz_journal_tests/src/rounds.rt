@@ -3,7 +3,7 @@
 use crate::rows::{RoundRow, rounds};
 use std::alloc::Global;
 use std::test::Fail;
-use sz_journal_format::{EntryError, RoundEntry, read_round, write_round};
+use sz_journal::{EntryError, RoundEntry, read_round, write_round};
 
 // Whether the round is written as these bytes.
 fn is_written(alloc: Global, round: &RoundEntry, bytes: &[u8]) -> bool {

@@ -1,6 +1,6 @@
 //! Jobs and rounds as bytes, and bytes that are none, each with what is in it.
 
-use sz_journal_format::Triple;
+use sz_journal::Triple;
 use sz_types::Frame;
 
 /// A job, and its bytes.

@@ -14,7 +14,13 @@ each_two (suc s) low = absurd (omega arith)
 
 -- one shard with two tickets
 pub two_tickets : IsPlan record { shards = 1; attempts = 2; tickets = 0 ∷ 0 ∷ [] }
-two_tickets = record { shards = omega arith; attempts = (omega arith, omega arith); tickets = omega arith; within = within_two; each = each_two }
+two_tickets = record {
+  shards = omega arith;
+  attempts = (omega arith, omega arith);
+  tickets = omega arith;
+  within = within_two;
+  each = each_two;
+}
 
 within_one : (t : ℕ) → t < 1 → slice_index (0 ∷ []) t < 1
 within_one zero low = omega arith
@@ -26,7 +32,13 @@ each_one (suc s) low = absurd (omega arith)
 
 -- one shard with one ticket
 pub one_ticket : IsPlan record { shards = 1; attempts = 2; tickets = 0 ∷ [] }
-one_ticket = record { shards = omega arith; attempts = (omega arith, omega arith); tickets = omega arith; within = within_one; each = each_one }
+one_ticket = record {
+  shards = omega arith;
+  attempts = (omega arith, omega arith);
+  tickets = omega arith;
+  within = within_one;
+  each = each_one;
+}
 
 within_four : (t : ℕ) → t < 4 → slice_index (0 ∷ 1 ∷ 2 ∷ 3 ∷ []) t < 4
 within_four zero low = omega arith
@@ -44,7 +56,13 @@ each_four (suc (suc (suc (suc s)))) low = absurd (omega arith)
 
 -- four shards with one ticket each
 pub four_shards : IsPlan record { shards = 4; attempts = 1; tickets = 0 ∷ 1 ∷ 2 ∷ 3 ∷ [] }
-four_shards = record { shards = omega arith; attempts = (omega arith, omega arith); tickets = omega arith; within = within_four; each = each_four }
+four_shards = record {
+  shards = omega arith;
+  attempts = (omega arith, omega arith);
+  tickets = omega arith;
+  within = within_four;
+  each = each_four;
+}
 
 within_six : (t : ℕ) → t < 6 → slice_index (0 ∷ 1 ∷ 1 ∷ 2 ∷ 3 ∷ 0 ∷ []) t < 4
 within_six zero low = omega arith
@@ -55,7 +73,8 @@ within_six (suc (suc (suc (suc zero)))) low = omega arith
 within_six (suc (suc (suc (suc (suc zero))))) low = omega arith
 within_six (suc (suc (suc (suc (suc (suc t)))))) low = absurd (omega arith)
 
-each_six : (s : ℕ) → s < 4 → (1 ≤ tickets_of s (0 ∷ 1 ∷ 1 ∷ 2 ∷ 3 ∷ 0 ∷ [])) × (tickets_of s (0 ∷ 1 ∷ 1 ∷ 2 ∷ 3 ∷ 0 ∷ []) ≤ 2)
+each_six : (s : ℕ) → s < 4
+    → (1 ≤ tickets_of s (0 ∷ 1 ∷ 1 ∷ 2 ∷ 3 ∷ 0 ∷ [])) × (tickets_of s (0 ∷ 1 ∷ 1 ∷ 2 ∷ 3 ∷ 0 ∷ []) ≤ 2)
 each_six zero low = (omega arith, omega arith)
 each_six (suc zero) low = (omega arith, omega arith)
 each_six (suc (suc zero)) low = (omega arith, omega arith)
@@ -64,4 +83,10 @@ each_six (suc (suc (suc (suc s)))) low = absurd (omega arith)
 
 -- four shards with six tickets
 pub six_tickets : IsPlan record { shards = 4; attempts = 2; tickets = 0 ∷ 1 ∷ 1 ∷ 2 ∷ 3 ∷ 0 ∷ [] }
-six_tickets = record { shards = omega arith; attempts = (omega arith, omega arith); tickets = omega arith; within = within_six; each = each_six }
+six_tickets = record {
+  shards = omega arith;
+  attempts = (omega arith, omega arith);
+  tickets = omega arith;
+  within = within_six;
+  each = each_six;
+}

@@ -2,7 +2,8 @@
 use Rattle.std.specs.Prelude.{◌≡◌}
 use Rattle.sz_claims.specs.Known.{PassData}
 
--- the pass is of the same ledger, has its number, and knows of the same passes; it has the lane that it had, or none again
+-- the pass is of the same ledger, has its number, and knows of the same passes; it has the lane that it had, or none
+-- again
 pub record KeepsPlace (v w : PassData) : Type 0 where
   pub ledger : w.ledger ≡ v.ledger
   pub number : w.number ≡ v.number

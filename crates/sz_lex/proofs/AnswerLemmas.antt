@@ -15,12 +15,13 @@ use Rattle.sz_lex.proofs.WholeLemmas.{tokens_given, char_given, literal_given, g
 -- ---- a text that is UTF-8
 
 module _ {V : Type 0} (view : V → List Token) (text : List ℕ) where
-  pub found_tokens : (r : Result V LexError) → IsUtf8 text → Gives view r (lexed 0 0 first_place text) → IfOk r (λ v. HasTokens text (view v))
+  pub found_tokens : (r : Result V LexError) → IsUtf8 text → Gives view r (lexed 0 0 first_place text)
+      → IfOk r (λ v. HasTokens text (view v))
   found_tokens (Ok v) utf8 h = record { utf8 = utf8; tokens = given_tokens text (view v) h }
   found_tokens (Err e) utf8 h = tt
 
-  pub only_tokens : (r : Result V LexError) → Gives view r (lexed 0 0 first_place text) → (ts : List Token) → HasTokens text ts
-      → MatchResult r (λ v. view v ≡ ts) (λ e. e ≡ errors.NoMemory)
+  pub only_tokens : (r : Result V LexError) → Gives view r (lexed 0 0 first_place text) → (ts : List Token)
+      → HasTokens text ts → MatchResult r (λ v. view v ≡ ts) (λ e. e ≡ errors.NoMemory)
   only_tokens (Ok v) h ts k = let both = sym h ∙ tokens_given text ts k.tokens in cc
   only_tokens (Err errors.NoMemory) h ts k = refl
   only_tokens (Err (errors.BadChar q)) h ts k = let both = sym h ∙ tokens_given text ts k.tokens in absurd cc
@@ -31,8 +32,10 @@ module _ {V : Type 0} (view : V → List Token) (text : List ℕ) where
       → IfErr r (λ e. (e ≡ errors.NoMemory) ⊎ IsRefused text e)
   refused (Ok v) utf8 h = tt
   refused (Err errors.NoMemory) utf8 h = inl refl
-  refused (Err (errors.BadChar q)) utf8 h = let r = given_char text q h in inr (record { utf8 = utf8; before = r.before; tokens = r.tokens })
-  refused (Err (errors.BadLiteral q)) utf8 h = let r = given_literal text q h in inr (record { utf8 = utf8; before = r.before; tokens = r.tokens })
+  refused (Err (errors.BadChar q)) utf8 h = let r = given_char text q h in
+      inr (record { utf8 = utf8; before = r.before; tokens = r.tokens })
+  refused (Err (errors.BadLiteral q)) utf8 h = let r = given_literal text q h in
+      inr (record { utf8 = utf8; before = r.before; tokens = r.tokens })
   refused (Err (errors.NotUtf8 q)) utf8 h = absurd h
 
   only_char : (r : Result V LexError) → Gives view r (lexed 0 0 first_place text) → (q : Place) → HasBadChar text q
@@ -43,8 +46,8 @@ module _ {V : Type 0} (view : V → List Token) (text : List ℕ) where
   only_char (Err (errors.BadLiteral p)) h q k = let both = sym h ∙ char_given text q k.before k.tokens in absurd cc
   only_char (Err (errors.NotUtf8 p)) h q k = absurd h
 
-  only_literal : (r : Result V LexError) → Gives view r (lexed 0 0 first_place text) → (q : Place) → HasBadLiteral text q
-      → MatchResult r (λ _. ⊥) (λ f. (f ≡ errors.NoMemory) ⊎ (f ≡ errors.BadLiteral q))
+  only_literal : (r : Result V LexError) → Gives view r (lexed 0 0 first_place text) → (q : Place)
+      → HasBadLiteral text q → MatchResult r (λ _. ⊥) (λ f. (f ≡ errors.NoMemory) ⊎ (f ≡ errors.BadLiteral q))
   only_literal (Ok v) h q k = let both = sym h ∙ literal_given text q k.before k.tokens in absurd cc
   only_literal (Err errors.NoMemory) h q k = inl refl
   only_literal (Err (errors.BadChar p)) h q k = let both = sym h ∙ literal_given text q k.before k.tokens in absurd cc
@@ -53,7 +56,8 @@ module _ {V : Type 0} (view : V → List Token) (text : List ℕ) where
 
 -- a text with a longest front that is UTF-8 isn't UTF-8 as a whole
 pub not_whole : (text : List ℕ) (n : ℕ) → IsValidUpTo text n → IsUtf8 text → ⊥
-not_whole text n h utf8 = h.longest (length text) h.short (subst IsUtf8 (sym (take_all (length text) text (le_refl (length text)))) utf8)
+not_whole text n h utf8 =
+    h.longest (length text) h.short (subst IsUtf8 (sym (take_all (length text) text (le_refl (length text)))) utf8)
 
 pub only_refused : {V : Type 0} (view : V → List Token) (text : List ℕ) (r : Result V LexError) → IsUtf8 text
     → Gives view r (lexed 0 0 first_place text)

@@ -58,18 +58,23 @@ no_gap (b ∷ bs) = not (is_blank b || eqb b 35) && no_gap bs
 sign_no_gap : (s : Sign) → no_gap (sign_text s) ≡ true
 sign_no_gap s = elim s as (λ (s : Sign). no_gap (sign_text s) ≡ true) [ signs.Arrow ↦ refl | _ ↦ refl ]
 
-no_gap_inside : (l : List ℕ) (c : ℕ) (more : List ℕ) → no_gap (l ++ (c ∷ more)) ≡ true → (is_blank c || eqb c 35) ≡ true → ⊥
-no_gap_inside [] c more h g = let p = and_parts (not (is_blank c || eqb c 35)) (no_gap more) h in apart (sym (sym (ap not g) ∙ p.0))
-no_gap_inside (b ∷ l) c more h g = no_gap_inside l c more (and_parts (not (is_blank b || eqb b 35)) (no_gap (l ++ (c ∷ more))) h).1 g
+no_gap_inside : (l : List ℕ) (c : ℕ) (more : List ℕ) → no_gap (l ++ (c ∷ more)) ≡ true
+    → (is_blank c || eqb c 35) ≡ true → ⊥
+no_gap_inside [] c more h g = let p = and_parts (not (is_blank c || eqb c 35)) (no_gap more) h in
+    apart (sym (sym (ap not g) ∙ p.0))
+no_gap_inside (b ∷ l) c more h g =
+    no_gap_inside l c more (and_parts (not (is_blank b || eqb b 35)) (no_gap (l ++ (c ∷ more))) h).1 g
 
 sign_apart : (s : Sign) (b : ℕ) (l rest : List ℕ) → b ∷ l ≡ sign_text s → BeginsApart rest → IsLongest (b ∷ l) rest
 sign_apart s b l rest h begins [] others e form = refl
 sign_apart s b l [] h begins (c ∷ extra) others e form = nil_cons e
 sign_apart s b l (d ∷ rest) h begins (c ∷ extra) others e form =
     let t = sign_form b (l ++ (c ∷ extra)) (begins_sign s b l (sym h)) form in
-    absurd (no_gap_inside (b ∷ l) c extra (ap no_gap t.1 ∙ sign_no_gap t.0) (ap (λ (x : ℕ). is_blank x || eqb x 35) (sym (heads e)) ∙ begins))
+    absurd (no_gap_inside (b ∷ l) c extra (ap no_gap t.1 ∙ sign_no_gap t.0)
+    (ap (λ (x : ℕ). is_blank x || eqb x 35) (sym (heads e)) ∙ begins))
 
-word_apart : (b : ℕ) (l rest : List ℕ) → is_word b ≡ true → all_word l ≡ true → BeginsApart rest → IsLongest (b ∷ l) rest
+word_apart : (b : ℕ) (l rest : List ℕ) → is_word b ≡ true → all_word l ≡ true → BeginsApart rest
+    → IsLongest (b ∷ l) rest
 word_apart b l rest w all begins = words_longest b l rest w (stops rest begins) (opening l all)
   where
     opening : (l : List ℕ) → all_word l ≡ true → (t : List ℕ) → b ≡ 66 → l ++ rest ≡ 34 ∷ t → ⊥
@@ -99,14 +104,16 @@ record Read (whole before text : List ℕ) (ss : List Spelled) : Type 0 where
   tokens : TokensThen Nothing ts false (length before) (later before first_place) text
   same : map (spelled_in whole) ts ≡ ss
 
-read : (ss : List Spelled) (before text whole : List ℕ) → whole ≡ before ++ text → IsWrittenApart ss text → Read whole before text ss
+read : (ss : List Spelled) (before text whole : List ℕ) → whole ≡ before ++ text → IsWrittenApart ss text
+    → Read whole before text ss
 unfolding TokensThen
 read [] before text whole e h = record { ts = []; tokens = h; same = refl }
 read (s ∷ ss) before text whole e h =
     let gap = h.0 in
     let rest = h.1 in
     let front = before ++ gap in
-    let parts : whole ≡ front ++ (s.text ++ rest) = e ∙ ap (λ (x : List ℕ). before ++ x) h.2 ∙ sym (append_assoc before gap (s.text ++ rest)) in
+    let parts : whole ≡ front ++ (s.text ++ rest) =
+    e ∙ ap (λ (x : List ℕ). before ++ x) h.2 ∙ sym (append_assoc before gap (s.text ++ rest)) in
     let more = read ss (front ++ s.text) rest whole (parts ∙ sym (append_assoc front s.text rest)) h.6 in
     let index : length (front ++ s.text) ≡ length before + length gap + length s.text =
     omega (arith, length-append front s.text, length-append before gap) in
@@ -137,8 +144,9 @@ read (s ∷ ss) before text whole e h =
           spelled = h.4;
           longest = lexeme_apart s.kind s.text rest h.4 h.5;
         },
-        subst (λ (p : Place). TokensThen Nothing more.ts false (length before + length gap + length s.text) p rest) place (subst (λ
-            (i : ℕ). TokensThen Nothing more.ts false i (later (front ++ s.text) first_place) rest) index more.tokens),
+        subst (λ (p : Place). TokensThen Nothing more.ts false (length before + length gap + length s.text) p rest)
+            place (subst (λ (i : ℕ). TokensThen Nothing more.ts false i (later (front ++ s.text) first_place) rest)
+            index more.tokens),
       );
       same = ap (λ (x : List ℕ). record { kind = s.kind; text = x } ∷ map (spelled_in whole) more.ts) lexeme
           ∙ ap (λ (xs : List Spelled). s ∷ xs) more.same;
@@ -149,7 +157,8 @@ written_apart ss text utf8 h =
     let r = read ss [] text text refl h in
     (r.ts, record { utf8 = utf8; tokens = r.tokens }, r.same)
 
-read_as : (ss : List Spelled) (text : List ℕ) (ts : List Token) → IsWrittenApart ss text → HasTokens text ts → map (spelled_in text) ts ≡ ss
+read_as : (ss : List Spelled) (text : List ℕ) (ts : List Token) → IsWrittenApart ss text → HasTokens text ts
+    → map (spelled_in text) ts ≡ ss
 read_as ss text ts h k =
     let r = written_apart ss text k.utf8 h in
     ap (map (spelled_in text)) (one_list text ts r.0 k r.1) ∙ r.2

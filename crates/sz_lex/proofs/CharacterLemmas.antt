@@ -28,7 +28,8 @@ pub record IsPlain (c : ℕ) : Type 0 where
 pub plain_read : (c : ℕ) → IsPlain c → plain_character (encode_utf8 c) ≡ Some c
 plain_read c h =
     let utf8 : is_utf8 (encode_utf8 c) ≡ true = is_utf8-from_IsUtf8 (encode_utf8 c) (IsUtf8-encode c h.scalar) in
-    let one : chars (encode_utf8 c) ≡ c ∷ [] = ap chars (sym (append-nil (encode_utf8 c))) ∙ chars-encodes (c ∷ []) (rw h.scalar refl) in
+    let one : chars (encode_utf8 c) ≡ c ∷ [] =
+    ap chars (sym (append-nil (encode_utf8 c))) ∙ chars-encodes (c ∷ []) (rw h.scalar refl) in
     rw (utf8, one, h.itself) refl
 
 record OnePlain (cs : List ℕ) (c : ℕ) : Type 0 where
@@ -41,7 +42,8 @@ one_plain (d ∷ []) c h = go (eqb d 39 || eqb d 92 || eqb d 10) refl
   where
     go : (x : Bool) → (eqb d 39 || eqb d 92 || eqb d 10) ≡ x → OnePlain (d ∷ []) c
     go true e = let no : None ≡ Some c = rw e at h in none_some no
-    go false e = let is : Some d ≡ Some c = rw e at h in let same : d ≡ c = cc in record { one = ap (λ (x : ℕ). x ∷ []) same; itself = rw (← same) e }
+    go false e = let is : Some d ≡ Some c = rw e at h in let same : d ≡ c = cc in
+        record { one = ap (λ (x : ℕ). x ∷ []) same; itself = rw (← same) e }
 one_plain (d ∷ e ∷ cs) c h = none_some h
 
 pub record PlainIs (bytes : List ℕ) (c : ℕ) : Type 0 where
@@ -70,7 +72,8 @@ record Closed (o : Option ℕ) (n : ℕ) (rest : List ℕ) (c m : ℕ) : Type 0 
   len : m ≡ n + 1
   quote : rest ≡ 39 ∷ drop 1 rest
 
-closed_of : (o : Option ℕ) (n : ℕ) (rest : List ℕ) (c m : ℕ) → quoted_character o n rest ≡ Some (c, m) → Closed o n rest c m
+closed_of : (o : Option ℕ) (n : ℕ) (rest : List ℕ) (c m : ℕ) → quoted_character o n rest ≡ Some (c, m)
+    → Closed o n rest c m
 closed_of None n rest c m h = none_some h
 closed_of (Some d) n [] c m h = none_some h
 closed_of (Some d) n (b ∷ rest) c m h = go (eqb b 39) refl
@@ -90,7 +93,8 @@ closed_of (Some d) n (b ∷ rest) c m h = go (eqb b 39) refl
         some_is : {x y : ℕ × ℕ} → Some x ≡ Some y → x ≡ y
         some_is e = cc
 
-closed_read : (o : Option ℕ) (n : ℕ) (rest : List ℕ) (c : ℕ) → o ≡ Some c → quoted_character o n (39 ∷ rest) ≡ Some (c, n + 1)
+closed_read : (o : Option ℕ) (n : ℕ) (rest : List ℕ) (c : ℕ) → o ≡ Some c
+    → quoted_character o n (39 ∷ rest) ≡ Some (c, n + 1)
 closed_read o n rest c e = ap (λ (x : Option ℕ). quoted_character x n (39 ∷ rest)) e
 
 -- ---- the literal
@@ -104,7 +108,8 @@ pub record CharacterAt (bs : List ℕ) (c n : ℕ) : Type 0 where
   pub is : IsCharacter (39 ∷ (body ++ (39 ∷ []))) c
 
 plain_case : (b : ℕ) (bs : List ℕ) → eqb b 92 ≡ false → let n =
-    prefix_len not_quote (b ∷ bs) in character_at (b ∷ bs) ≡ quoted_character (plain_character (take n (b ∷ bs))) n (drop n (b ∷ bs))
+    prefix_len not_quote (b ∷ bs) in
+    character_at (b ∷ bs) ≡ quoted_character (plain_character (take n (b ∷ bs))) n (drop n (b ∷ bs))
 plain_case b bs e = rw e refl
 
 -- a text's character literal is read
@@ -112,7 +117,8 @@ pub escaped_read : (text rest : List ℕ) (c : ℕ) → option_and_then escape_c
     → character_at (92 ∷ (text ++ (39 ∷ rest))) ≡ Some (c, suc (length text) + 1)
 escaped_read text rest c h = go (escape_of text) refl
   where
-    go : (o : Option Escape) → escape_of text ≡ o → character_at (92 ∷ (text ++ (39 ∷ rest))) ≡ Some (c, suc (length text) + 1)
+    go : (o : Option Escape) → escape_of text ≡ o
+        → character_at (92 ∷ (text ++ (39 ∷ rest))) ≡ Some (c, suc (length text) + 1)
     go None e = let no : None ≡ Some c = rw e at h in none_some no
     go (Some x) e =
         let more = 39 ∷ rest in
@@ -120,15 +126,16 @@ escaped_read text rest c h = go (escape_of text) refl
         ap (option_and_then escape_code) (escape_read text more x e ∙ sym e) ∙ h in
         let size : escape_size (first (text ++ more)) ≡ length text = first_front text more x e in
         let n : 1 + length text ≡ suc (length text) = omega arith in
-        ap (λ (k : ℕ). quoted_character (option_and_then escape_code (escape_at (text ++ more))) (1 + k) (drop k (text ++ more))) size
-        ∙ ap (λ (t : List ℕ). quoted_character (option_and_then escape_code (escape_at (text ++ more))) (1 + length text) t)
+        ap (λ (k : ℕ). quoted_character (option_and_then escape_code (escape_at (text ++ more))) (1 + k)
+        (drop k (text ++ more))) size ∙ ap (λ (t : List ℕ).
+        quoted_character (option_and_then escape_code (escape_at (text ++ more))) (1 + length text) t)
         (drop_at text more (length text) refl)
         ∙ closed_read _ (1 + length text) rest c code
         ∙ ap (λ (k : ℕ). Some (c, k + 1)) n
 
 -- a character's bytes have no quote inside, and do not begin with a backslash
-plain_byte : (c : ℕ) → IsPlain c → (rest : List ℕ) (k : ℕ) → k < length (encode_utf8 c) → (d : ℕ) → d < 128 → eqb c d ≡ false
-    → get_or (encode_utf8 c ++ rest) k 0 ≢ d
+plain_byte : (c : ℕ) → IsPlain c → (rest : List ℕ) (k : ℕ) → k < length (encode_utf8 c) → (d : ℕ) → d < 128
+    → eqb c d ≡ false → get_or (encode_utf8 c ++ rest) k 0 ≢ d
 plain_byte c h rest k lt d low other is =
     let same : c ≡ d = inside_one c rest (encode_utf8 c ++ rest) k refl lt (rw is low) ∙ is in
     let yes : eqb c d ≡ true = eq-eqb c d same in
@@ -146,7 +153,8 @@ not_eqb a d h = go (eqb a d) refl
     go true e = absurd (h (eqb-true a d e))
     go false e = e
 
-quote_place : (c : ℕ) → IsPlain c → (rest : List ℕ) → prefix_len not_quote (encode_utf8 c ++ (39 ∷ rest)) ≡ length (encode_utf8 c)
+quote_place : (c : ℕ) → IsPlain c → (rest : List ℕ)
+    → prefix_len not_quote (encode_utf8 c ++ (39 ∷ rest)) ≡ length (encode_utf8 c)
 quote_place c h rest =
     let bs = encode_utf8 c ++ (39 ∷ rest) in
     let n = length (encode_utf8 c) in
@@ -155,7 +163,8 @@ quote_place c h rest =
     (λ k lt. ap not (not_eqb (get_or bs k 0) 39 (plain_byte c h (39 ∷ rest) k lt 39 (omega arith) parts.0)))
     (λ _. ap not_quote (get_or_at (encode_utf8 c) 39 rest 0 n refl))
 
-pub plain_at : (c : ℕ) → IsPlain c → (rest : List ℕ) → character_at (encode_utf8 c ++ (39 ∷ rest)) ≡ Some (c, length (encode_utf8 c) + 1)
+pub plain_at : (c : ℕ) → IsPlain c → (rest : List ℕ)
+    → character_at (encode_utf8 c ++ (39 ∷ rest)) ≡ Some (c, length (encode_utf8 c) + 1)
 plain_at c h rest = go (encode_utf8 c) refl
   where
     positive : 0 < length (encode_utf8 c)
@@ -164,7 +173,8 @@ plain_at c h rest = go (encode_utf8 c) refl
     parts : (eqb c 39 ≡ false) × (eqb c 92 ≡ false)
     parts = or_parts (eqb c 39) (eqb c 92) (eqb c 10) h.itself
 
-    go : (t : List ℕ) → encode_utf8 c ≡ t → character_at (encode_utf8 c ++ (39 ∷ rest)) ≡ Some (c, length (encode_utf8 c) + 1)
+    go : (t : List ℕ) → encode_utf8 c ≡ t
+        → character_at (encode_utf8 c ++ (39 ∷ rest)) ≡ Some (c, length (encode_utf8 c) + 1)
     go [] e = absurd (omega (arith, ap length e, positive))
     go (b ∷ t) e =
         let bs = encode_utf8 c ++ (39 ∷ rest) in
@@ -172,13 +182,16 @@ plain_at c h rest = go (encode_utf8 c) refl
         let begins : bs ≡ b ∷ (t ++ (39 ∷ rest)) = ap (λ (x : List ℕ). x ++ (39 ∷ rest)) e in
         let byte : eqb b 92 ≡ false = ap (λ (x : ℕ). eqb x 92) (sym (ap (λ (x : List ℕ). get_or x 0 0) begins))
         ∙ not_eqb (get_or bs 0 0) 92 (plain_byte c h (39 ∷ rest) 0 positive 92 (omega arith) parts.1) in
-        let len : prefix_len not_quote (b ∷ (t ++ (39 ∷ rest))) ≡ n = ap (prefix_len not_quote) (sym begins) ∙ quote_place c h rest in
+        let len : prefix_len not_quote (b ∷ (t ++ (39 ∷ rest))) ≡ n =
+        ap (prefix_len not_quote) (sym begins) ∙ quote_place c h rest in
         ap character_at begins
         ∙ plain_case b (t ++ (39 ∷ rest)) byte
-        ∙ ap (λ (k : ℕ). quoted_character (plain_character (take k (b ∷ (t ++ (39 ∷ rest))))) k (drop k (b ∷ (t ++ (39 ∷ rest))))) len
+        ∙ ap (λ (k : ℕ). quoted_character (plain_character (take k (b ∷ (t ++ (39 ∷ rest))))) k
+        (drop k (b ∷ (t ++ (39 ∷ rest))))) len
         ∙ ap (λ (x : List ℕ). quoted_character (plain_character (take n x)) n (drop n x)) (sym begins)
-        ∙ ap (λ (x : List ℕ). quoted_character (plain_character x) n (drop n bs)) (take_at (encode_utf8 c) (39 ∷ rest) n refl)
-        ∙ ap (λ (x : List ℕ). quoted_character (plain_character (encode_utf8 c)) n x) (drop_at (encode_utf8 c) (39 ∷ rest) n refl)
+        ∙ ap (λ (x : List ℕ). quoted_character (plain_character x) n (drop n bs))
+        (take_at (encode_utf8 c) (39 ∷ rest) n refl) ∙ ap (λ (x : List ℕ).
+        quoted_character (plain_character (encode_utf8 c)) n x) (drop_at (encode_utf8 c) (39 ∷ rest) n refl)
         ∙ closed_read _ n rest c (plain_read c h)
 
 -- what is read is a character literal
@@ -198,7 +211,8 @@ escape_character bs c n h = go (escape_at bs) refl
         let rest : drop size bs ≡ k.rest = ap (λ (m : ℕ). drop m bs) k.size ∙ ap (drop (length k.text)) k.parts
         ∙ drop_at k.text k.rest (length k.text) refl in
         let quote : k.rest ≡ 39 ∷ drop 1 k.rest = rw rest at closed.quote in
-        let code : option_and_then escape_code (escape_of k.text) ≡ Some c = ap (option_and_then escape_code) (k.is ∙ sym e) ∙ closed.is in
+        let code : option_and_then escape_code (escape_of k.text) ≡ Some c =
+        ap (option_and_then escape_code) (k.is ∙ sym e) ∙ closed.is in
         record {
           body = 92 ∷ k.text;
           rest = drop 1 k.rest;
@@ -207,7 +221,8 @@ escape_character bs c n h = go (escape_at bs) refl
           is = escaped k.text code refl;
         }
 
-plain_literal : (b : ℕ) (bs : List ℕ) (c n : ℕ) → eqb b 92 ≡ false → character_at (b ∷ bs) ≡ Some (c, n) → CharacterAt (b ∷ bs) c n
+plain_literal : (b : ℕ) (bs : List ℕ) (c n : ℕ) → eqb b 92 ≡ false → character_at (b ∷ bs) ≡ Some (c, n)
+    → CharacterAt (b ∷ bs) c n
 plain_literal b bs c n e h =
     let k = prefix_len not_quote (b ∷ bs) in
     let closed = closed_of (plain_character (take k (b ∷ bs))) k (drop k (b ∷ bs)) c n (sym (plain_case b bs e) ∙ h) in

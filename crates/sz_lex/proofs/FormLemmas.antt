@@ -55,8 +55,8 @@ opened q literal v h =
     record {
       body = parts_text h.parts ++ (34 ∷ []);
       spelled = h.spelled;
-      read = λ rest. ap (body_at q 0) (append_assoc (parts_text h.parts) (34 ∷ []) rest) ∙ body_read q h.parts rest v h.stands
-          ∙ ap (λ (m : ℕ). Some (record { len = m; value = v })) n;
+      read = λ rest. ap (body_at q 0) (append_assoc (parts_text h.parts) (34 ∷ []) rest)
+          ∙ body_read q h.parts rest v h.stands ∙ ap (λ (m : ℕ). Some (record { len = m; value = v })) n;
     }
 
 nil_of : (xs : List ℕ) → length xs ≡ 0 → xs ≡ []
@@ -78,9 +78,11 @@ quoted_longest q l v extra w rest others h k e =
     let longer : opening q ++ (a.body ++ extra) ≡ opening q ++ b.body = sym (append_assoc (opening q) a.body extra)
     ∙ ap (λ (t : List ℕ). t ++ extra) (sym a.spelled) ∙ b.spelled in
     let body : a.body ++ extra ≡ b.body = append_cancel_left (opening q) (a.body ++ extra) b.body longer in
-    let text : a.body ++ rest ≡ b.body ++ others = ap (λ (t : List ℕ). a.body ++ t) e ∙ sym (append_assoc a.body extra others)
+    let text : a.body ++ rest ≡ b.body ++ others =
+    ap (λ (t : List ℕ). a.body ++ t) e ∙ sym (append_assoc a.body extra others)
     ∙ ap (λ (t : List ℕ). t ++ others) body in
-    let len : length a.body ≡ length b.body = same_len _ _ (sym (a.read rest) ∙ ap (body_at q 0) text ∙ b.read others) in
+    let len : length a.body ≡ length b.body =
+    same_len _ _ (sym (a.read rest) ∙ ap (body_at q 0) text ∙ b.read others) in
     nil_of extra (omega (arith, ap length body, length-append a.body extra, len))
 
 pub character_read : (b c : ℕ) (l rest : List ℕ) → IsCharacter (b ∷ l) c → character_at (l ++ rest) ≡ Some (c, length l)
@@ -94,7 +96,8 @@ character_read b c l rest (plain scalar itself h) =
     }) rest ∙ ap (λ (m : ℕ). Some (c, m)) n
 character_read b c l rest (escaped text code h) =
     let n : suc (length text) + 1 ≡ length l = omega (arith, ap length (tails h), length-append text (39 ∷ [])) in
-    ap character_at (ap (λ (t : List ℕ). t ++ rest) (tails h) ∙ ap (λ (t : List ℕ). 92 ∷ t) (append_assoc text (39 ∷ []) rest))
+    ap character_at
+    (ap (λ (t : List ℕ). t ++ rest) (tails h) ∙ ap (λ (t : List ℕ). 92 ∷ t) (append_assoc text (39 ∷ []) rest))
     ∙ escaped_read text rest c code ∙ ap (λ (m : ℕ). Some (c, m)) n
 
 pub character_quote : (b c : ℕ) (l : List ℕ) → IsCharacter (b ∷ l) c → b ≡ 39
@@ -107,11 +110,12 @@ second_same x y e = ap (λ (p : ℕ × ℕ). p.1) (some_is e)
     some_is : Some x ≡ Some y → x ≡ y
     some_is e = cc
 
-pub character_longest : (b c d : ℕ) (l extra rest others : List ℕ) → IsCharacter (b ∷ l) c → IsCharacter (b ∷ (l ++ extra)) d
-    → rest ≡ extra ++ others → extra ≡ []
+pub character_longest : (b c d : ℕ) (l extra rest others : List ℕ) → IsCharacter (b ∷ l) c
+    → IsCharacter (b ∷ (l ++ extra)) d → rest ≡ extra ++ others → extra ≡ []
 character_longest b c d l extra rest others h k e =
     let text : l ++ rest ≡ (l ++ extra) ++ others = ap (λ (t : List ℕ). l ++ t) e ∙ sym (append_assoc l extra others) in
-    let len : length l ≡ length (l ++ extra) = second_same (c, length l) (d, length (l ++ extra)) (sym (character_read b c l rest h)
+    let len : length l ≡ length (l ++ extra) =
+    second_same (c, length l) (d, length (l ++ extra)) (sym (character_read b c l rest h)
     ∙ ap character_at text ∙ character_read b d (l ++ extra) others k) in
     nil_of extra (omega (arith, length-append l extra, len))
 
@@ -127,8 +131,8 @@ quoted_front quoteds.Bytes b l v h = (_, heads h.spelled, tails h.spelled)
 -- ---- the longest
 
 -- a whole run of word's bytes is the longest, unless it is the B of bytes
-pub words_longest : (b : ℕ) (l rest : List ℕ) → is_word b ≡ true → Stops rest → ((t : List ℕ) → b ≡ 66 → l ++ rest ≡ 34 ∷ t → ⊥)
-    → IsLongest (b ∷ l) rest
+pub words_longest : (b : ℕ) (l rest : List ℕ) → is_word b ≡ true → Stops rest
+    → ((t : List ℕ) → b ≡ 66 → l ++ rest ≡ 34 ∷ t → ⊥) → IsLongest (b ∷ l) rest
 words_longest b l rest w stops no_b extra others e form = go (shape_of b (l ++ extra) form)
   where
     no_word : (d : ℕ) → is_word d ≡ false → b ≡ d → extra ≡ []
@@ -201,7 +205,8 @@ bytes_longest b l v rest h extra others e form = go (shape_of b (l ++ extra) for
     is = quoted_front quoteds.Bytes b l v h
 
     no_words : all_word (l ++ extra) ≡ true → extra ≡ []
-    no_words all = let first : all_word (34 ∷ (is.0 ++ extra)) ≡ true = ap (λ (x : List ℕ). all_word (x ++ extra)) (sym is.2)
+    no_words all =
+        let first : all_word (34 ∷ (is.0 ++ extra)) ≡ true = ap (λ (x : List ℕ). all_word (x ++ extra)) (sym is.2)
         ∙ all in apart (sym (and_parts false (all_word (is.0 ++ extra)) first).0)
 
     other : (q : Quoted) (w : List ℕ) → IsQuoted q (b ∷ (l ++ extra)) w → extra ≡ []
@@ -209,7 +214,13 @@ bytes_longest b l v rest h extra others e form = go (shape_of b (l ++ extra) for
     other quoteds.Str w k = other_byte b 66 34 refl is.1 (quoted_front quoteds.Str b (l ++ extra) w k)
 
     too_short : b ∷ (l ++ extra) ≡ 66 ∷ 34 ∷ [] → extra ≡ []
-    too_short k = absurd (omega (arith, ap length k, ap length h.spelled, length-append l extra, length-append (parts_text h.parts) (34 ∷ [])))
+    too_short k = absurd (omega (
+      arith,
+      ap length k,
+      ap length h.spelled,
+      length-append l extra,
+      length-append (parts_text h.parts) (34 ∷ []),
+    ))
 
     go : Shape b (l ++ extra) → extra ≡ []
     go (words w all) = no_words all

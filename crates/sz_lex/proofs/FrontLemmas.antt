@@ -52,7 +52,13 @@ record FrontRun (bs : List ℕ) : Type 0 where
   stops : Stops rest
 
 front_run : (bs : List ℕ) → FrontRun bs
-front_run bs = let r = run_at bs in record { l = r.run; rest = r.rest; parts = r.parts; words = r.words; stops = r.stops }
+front_run bs = let r = run_at bs in record {
+  l = r.run;
+  rest = r.rest;
+  parts = r.parts;
+  words = r.words;
+  stops = r.stops;
+}
 
 -- a name's bytes spell a reserved word or a name
 pub word_lexeme : (l : List ℕ) → IsName l → IsLexeme (word_kind l) l
@@ -65,7 +71,8 @@ word_lexeme l h = go (word_of l) refl
     go None e = subst (λ (o : Option Word). IsLexeme (kind_of o) l) (sym e) (h, none e)
     go (Some w) e = subst (λ (o : Option Word). IsLexeme (kind_of o) l) (sym e) (sym (word_spells l w e))
 
-no_b_of : (b : ℕ) (bs l rest : List ℕ) → bs ≡ l ++ rest → begins_literal (b ∷ bs) ≡ false → (t : List ℕ) → b ≡ 66 → l ++ rest ≡ 34 ∷ t → ⊥
+no_b_of : (b : ℕ) (bs l rest : List ℕ) → bs ≡ l ++ rest → begins_literal (b ∷ bs) ≡ false → (t : List ℕ) → b ≡ 66
+    → l ++ rest ≡ 34 ∷ t → ⊥
 no_b_of b bs l rest e none t is h = apart (sym (ap (λ (x : List ℕ). begins_literal x) (ap (λ (x : ℕ). x ∷ bs) is
     ∙ ap (λ (x : List ℕ). 66 ∷ x) (e ∙ h))) ∙ none)
 
@@ -94,7 +101,8 @@ word_front b bs h none =
       };
     }
 
-number_sound : (b : ℕ) (bs : List ℕ) (k : Kind) (n : ℕ) → is_digit b ≡ true → item_of b bs ≡ Lexeme k n → At k n (b ∷ bs)
+number_sound : (b : ℕ) (bs : List ℕ) (k : Kind) (n : ℕ) → is_digit b ≡ true → item_of b bs ≡ Lexeme k n
+    → At k n (b ∷ bs)
 number_sound b bs k n d h = go (number_of (b ∷ r.l)) refl
   where
     r : FrontRun bs
@@ -107,8 +115,10 @@ number_sound b bs k n d h = go (number_of (b ∷ r.l)) refl
     item = sym (number_item_is b r.l r.rest (d, r.words) r.stops) ∙ ap (item_of b) (sym r.parts) ∙ h
 
     go : (o : Option ℤ) → number_of (b ∷ r.l) ≡ o → At k n (b ∷ bs)
-    go None e = let bad : BadLiteral ≡ Lexeme k n = ap (λ (o : Option ℤ). number_item o (suc (length r.l))) (sym e) ∙ item in absurd cc
-    go (Some v) e = at_is (kinds.Number v) k (suc (length r.l)) n (b ∷ bs) (ap (λ (o : Option ℤ). number_item o (suc (length r.l)))
+    go None e = let bad : BadLiteral ≡ Lexeme k n =
+        ap (λ (o : Option ℤ). number_item o (suc (length r.l))) (sym e) ∙ item in absurd cc
+    go (Some v) e = at_is (kinds.Number v) k (suc (length r.l)) n (b ∷ bs)
+        (ap (λ (o : Option ℤ). number_item o (suc (length r.l)))
         (sym e) ∙ item) (record {
           lexeme = b ∷ r.l;
           rest = r.rest;
@@ -140,11 +150,13 @@ quoted_spelled : (q : Quoted) (l v : List ℕ) → IsQuoted q l v → IsLexeme (
 quoted_spelled quoteds.Str l v h = (v, h)
 quoted_spelled quoteds.Bytes l v h = (v, h)
 
-quoted_is_whole : (q : Quoted) (body v rest : List ℕ) → IsQuoted q (opening q ++ body) v → IsLongest (opening q ++ body) rest
+quoted_is_whole : (q : Quoted) (body v rest : List ℕ) → IsQuoted q (opening q ++ body) v
+    → IsLongest (opening q ++ body) rest
 quoted_is_whole quoteds.Str body v rest h = quoted_is_longest quoteds.Str 34 body v rest h
 quoted_is_whole quoteds.Bytes body v rest h = quoted_is_longest quoteds.Bytes 66 (34 ∷ body) v rest h
 
-quoted_sound : (q : Quoted) (bs : List ℕ) (k : Kind) (n : ℕ) → quoted_item q (body_at q 0 bs) ≡ Lexeme k n → At k n (opening q ++ bs)
+quoted_sound : (q : Quoted) (bs : List ℕ) (k : Kind) (n : ℕ) → quoted_item q (body_at q 0 bs) ≡ Lexeme k n
+    → At k n (opening q ++ bs)
 quoted_sound q bs k n h = go (body_at q 0 bs) refl
   where
     go : (o : Option Body) → body_at q 0 bs ≡ o → At k n (opening q ++ bs)
@@ -153,7 +165,8 @@ quoted_sound q bs k n h = go (body_at q 0 bs) refl
         let b = body_is q bs x e in
         let body = parts_text b.ps ++ (34 ∷ []) in
         let is : IsQuoted q (opening q ++ body) x.value = record { parts = b.ps; spelled = refl; stands = b.value } in
-        at_is (quoted_kind q) k (length (opening q) + x.len) n (opening q ++ bs) (ap (quoted_item q) (sym e) ∙ h) (record {
+        at_is (quoted_kind q) k (length (opening q) + x.len) n (opening q ++ bs)
+        (ap (quoted_item q) (sym e) ∙ h) (record {
           lexeme = opening q ++ body;
           rest = b.rest;
           parts = ap (λ (t : List ℕ). opening q ++ t) (b.text ∙ sym (append_assoc (parts_text b.ps) (34 ∷ []) b.rest))
@@ -169,10 +182,12 @@ literal_sound b bs k n begins d h = go (eqb b 39) (eqb b 34) refl refl
   where
     go : (x y : Bool) → eqb b 39 ≡ x → eqb b 34 ≡ y → At k n (b ∷ bs)
     go true y e f = subst (λ (m : ℕ). At k n (m ∷ bs)) (sym (eqb-true b 39 e)) (character_sound bs k n (rw (d, e) at h))
-    go false true e f = subst (λ (m : ℕ). At k n (m ∷ bs)) (sym (eqb-true b 34 f)) (quoted_sound quoteds.Str bs k n (rw (d, e, f) at h))
+    go false true e f = subst (λ (m : ℕ). At k n (m ∷ bs)) (sym (eqb-true b 34 f))
+        (quoted_sound quoteds.Str bs k n (rw (d, e, f) at h))
     go false false e f =
         let o = opens_bytes b bs begins d f e in
-        let text : 66 ∷ 34 ∷ o.more ≡ b ∷ bs = ap (λ (x : ℕ). x ∷ 34 ∷ o.more) (sym o.first) ∙ ap (λ (t : List ℕ). b ∷ t) (sym o.second) in
+        let text : 66 ∷ 34 ∷ o.more ≡ b ∷ bs =
+        ap (λ (x : ℕ). x ∷ 34 ∷ o.more) (sym o.first) ∙ ap (λ (t : List ℕ). b ∷ t) (sym o.second) in
         let item : quoted_item quoteds.Bytes (body_at quoteds.Bytes 0 (drop 1 bs)) ≡ Lexeme k n = rw (d, e, f) at h in
         subst (At k n) text (quoted_sound quoteds.Bytes o.more k n (ap (λ (t : List ℕ). quoted_item quoteds.Bytes
         (body_at quoteds.Bytes 0 (drop 1 t))) (sym o.second) ∙ item))
@@ -180,23 +195,40 @@ literal_sound b bs k n begins d h = go (eqb b 39) (eqb b 34) refl refl
 -- ---- signs
 
 pair_sound : (b c : ℕ) (rest : List ℕ) (s : Sign) → pair_sign b c ≡ Some s → At (kinds.Sign s) 2 (b ∷ c ∷ rest)
-pair_sound b c rest s h = record { lexeme = b ∷ c ∷ []; rest = rest; parts = refl; len = refl; spelled = sym (pair_text b c s h); longest = longest }
+pair_sound b c rest s h = record {
+  lexeme = b ∷ c ∷ [];
+  rest = rest;
+  parts = refl;
+  len = refl;
+  spelled = sym (pair_text b c s h);
+  longest = longest;
+}
   where
     too_long : (d : ℕ) (extra : List ℕ) → (t : Sign) × (b ∷ c ∷ d ∷ extra ≡ sign_text t) → ⊥
     too_long d extra t = none_some (ap sign_of t.1 ∙ sign_again t.0)
 
     longest : IsLongest (b ∷ c ∷ []) rest
     longest [] others e form = refl
-    longest (d ∷ extra) others e form = absurd (too_long d extra (sign_form b (c ∷ d ∷ extra) (begins_sign s b (c ∷ []) (pair_text b c s h)) form))
+    longest (d ∷ extra) others e form =
+        absurd (too_long d extra (sign_form b (c ∷ d ∷ extra) (begins_sign s b (c ∷ []) (pair_text b c s h)) form))
 
-single_sound : (b : ℕ) (rest : List ℕ) (s : Sign) → pair_sign b (first rest) ≡ None → single_sign b ≡ Some s → At (kinds.Sign s) 1 (b ∷ rest)
-single_sound b rest s pair h = record { lexeme = b ∷ []; rest = rest; parts = refl; len = refl; spelled = sym (single_text b s h); longest = longest }
+single_sound : (b : ℕ) (rest : List ℕ) (s : Sign) → pair_sign b (first rest) ≡ None → single_sign b ≡ Some s
+    → At (kinds.Sign s) 1 (b ∷ rest)
+single_sound b rest s pair h = record {
+  lexeme = b ∷ [];
+  rest = rest;
+  parts = refl;
+  len = refl;
+  spelled = sym (single_text b s h);
+  longest = longest;
+}
   where
     form_sign : (extra : List ℕ) → HasForm (b ∷ extra) → (t : Sign) × (b ∷ extra ≡ sign_text t)
     form_sign extra form = sign_form b extra (begins_sign s b [] (single_text b s h)) form
 
     two : (c : ℕ) (others : List ℕ) → rest ≡ c ∷ others → (t : Sign) × (b ∷ c ∷ [] ≡ sign_text t) → ⊥
-    two c others e t = none_some (sym pair ∙ ap (λ (x : List ℕ). pair_sign b (first x)) e ∙ ap sign_of t.1 ∙ sign_again t.0)
+    two c others e t =
+        none_some (sym pair ∙ ap (λ (x : List ℕ). pair_sign b (first x)) e ∙ ap sign_of t.1 ∙ sign_again t.0)
 
     too_long : (c d : ℕ) (extra : List ℕ) → (t : Sign) × (b ∷ c ∷ d ∷ extra ≡ sign_text t) → ⊥
     too_long c d extra t = none_some (ap sign_of t.1 ∙ sign_again t.0)
@@ -222,7 +254,8 @@ pub data Front (b : ℕ) (bs : List ℕ) : Type 0 where
   bad_char : item_of b bs ≡ BadChar → BeginsNone b → Front b bs
   bad_literal : item_of b bs ≡ BadLiteral → begins_literal (b ∷ bs) ≡ true → Front b bs
 
-sign_front : (b : ℕ) (bs : List ℕ) → is_blank b ≡ false → eqb b 35 ≡ false → begins_literal (b ∷ bs) ≡ false → is_letter b ≡ false → Front b bs
+sign_front : (b : ℕ) (bs : List ℕ) → is_blank b ≡ false → eqb b 35 ≡ false → begins_literal (b ∷ bs) ≡ false
+    → is_letter b ≡ false → Front b bs
 sign_front b bs no_blank no_hash begins letter = go (pair_sign b (first bs)) (single_sign b) refl refl
   where
     item : item_of b bs ≡ sign_item (sign_or (pair_sign b (first bs)) (single_sign b))
@@ -237,19 +270,25 @@ sign_front b bs no_blank no_hash begins letter = go (pair_sign b (first bs)) (si
 
     none : single_sign b ≡ None → (k : Kind) (l : List ℕ) → IsLexeme k (b ∷ l) → ⊥
     none e kinds.Name l h = apart (sym h.0.0 ∙ letter)
-    none e (kinds.Word w) l h = let n : IsName (b ∷ l) = subst IsName (sym h) (word_is_name w) in apart (sym n.0 ∙ letter)
+    none e (kinds.Word w) l h = let n : IsName (b ∷ l) = subst IsName (sym h) (word_is_name w) in
+        apart (sym n.0 ∙ letter)
     none e (kinds.Number n) l h = no_begin (digit_begins b bs h.0.0)
-    none e (kinds.Character c) l h = no_begin (ap (λ (x : ℕ). begins_literal (x ∷ bs)) (character_quote b c l h) ∙ single_quote_begins bs)
-    none e kinds.Str l h = no_begin (ap (λ (x : ℕ). begins_literal (x ∷ bs)) (quoted_front quoteds.Str b l h.0 h.1) ∙ quote_begins bs)
+    none e (kinds.Character c) l h =
+        no_begin (ap (λ (x : ℕ). begins_literal (x ∷ bs)) (character_quote b c l h) ∙ single_quote_begins bs)
+    none e kinds.Str l h =
+        no_begin (ap (λ (x : ℕ). begins_literal (x ∷ bs)) (quoted_front quoteds.Str b l h.0 h.1) ∙ quote_begins bs)
     none e kinds.Bytes l h = apart (sym (ap is_letter (quoted_front quoteds.Bytes b l h.0 h.1).1) ∙ letter)
     none e (kinds.Sign s) l h = none_some (sym e ∙ (begins_sign s b l (sym h)).single.1)
 
     go : (o p : Option Sign) → pair_sign b (first bs) ≡ o → single_sign b ≡ p → Front b bs
-    go (Some s) p e f = lexeme (kinds.Sign s) 2 (item ∙ ap (λ (o : Option Sign). sign_item (sign_or o (single_sign b))) e) (pair_front bs s e)
-    go None (Some s) e f = lexeme (kinds.Sign s) 1 (item ∙ ap (λ (o : Option Sign). sign_item (sign_or o (single_sign b))) e
+    go (Some s) p e f = lexeme (kinds.Sign s) 2
+        (item ∙ ap (λ (o : Option Sign). sign_item (sign_or o (single_sign b))) e) (pair_front bs s e)
+    go None (Some s) e f =
+        lexeme (kinds.Sign s) 1 (item ∙ ap (λ (o : Option Sign). sign_item (sign_or o (single_sign b))) e
         ∙ ap (λ (o : Option Sign). sign_item (sign_or None o)) f) (single_sound b bs s e f)
     go None None e f = bad_char (item ∙ ap (λ (o : Option Sign). sign_item (sign_or o (single_sign b))) e
-        ∙ ap (λ (o : Option Sign). sign_item (sign_or None o)) f) (record { blank = no_blank; hash = no_hash; none = none f })
+        ∙ ap (λ (o : Option Sign). sign_item (sign_or None o)) f)
+        (record { blank = no_blank; hash = no_hash; none = none f })
 
 -- a literal is a token or bad
 abbrev OfLiteral : Item → Type 0
@@ -275,10 +314,12 @@ of_quoted q None = tt
 of_quoted q (Some b) = tt
 
 of_literal : (b : ℕ) (bs : List ℕ) → OfLiteral (literal_item b bs)
-of_literal b bs = of_cond (is_digit b) _ _ (of_number _ _) (of_cond (eqb b 39) _ _ (of_character _) (of_cond (eqb b 34) _ _
+of_literal b bs =
+    of_cond (is_digit b) _ _ (of_number _ _) (of_cond (eqb b 39) _ _ (of_character _) (of_cond (eqb b 34) _ _
     (of_quoted quoteds.Str _) (of_quoted quoteds.Bytes _)))
 
-literal_front : (b : ℕ) (bs : List ℕ) → is_blank b ≡ false → eqb b 35 ≡ false → begins_literal (b ∷ bs) ≡ true → Front b bs
+literal_front : (b : ℕ) (bs : List ℕ) → is_blank b ≡ false → eqb b 35 ≡ false
+    → begins_literal (b ∷ bs) ≡ true → Front b bs
 literal_front b bs no_blank no_hash begins = go (literal_item b bs) refl (of_literal b bs)
   where
     item : item_of b bs ≡ literal_item b bs

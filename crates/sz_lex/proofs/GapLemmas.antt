@@ -17,25 +17,28 @@ abbrev pub Answer : Type 0
 Answer = Result (List Token) LexError
 
 -- bytes that belong to what came before are passed
-pub passed : (l rest : List ℕ) (at : ℕ) (p : Place) → lexed (length l) at p (l ++ rest) ≡ lexed 0 (at + length l) (later l p) rest
+pub passed : (l rest : List ℕ) (at : ℕ) (p : Place)
+    → lexed (length l) at p (l ++ rest) ≡ lexed 0 (at + length l) (later l p) rest
 unfolding lexed
 passed [] rest at p = let e : at + 0 ≡ at = omega arith in rw e refl
-passed (b ∷ l) rest at p = let e : at + 1 + length l ≡ at + suc (length l) = omega arith in passed l rest (at + 1) (after b p)
-    ∙ ap (λ n. lexed 0 n (later l (after b p)) rest) e
+passed (b ∷ l) rest at p = let e : at + 1 + length l ≡ at + suc (length l) = omega arith in
+    passed l rest (at + 1) (after b p) ∙ ap (λ n. lexed 0 n (later l (after b p)) rest) e
 
 -- how many bytes of the text belong to the comment that it begins in
 abbrev pub left_of : Bool → List ℕ → ℕ
 left_of false bs = 0
 left_of true bs = prefix_len not_newline bs
 
-turn_at : (b : ℕ) (bs : List ℕ) (at n : ℕ) (p : Place) → item_of b bs ≡ Gap n → lexed 0 at p (b ∷ bs) ≡ lexed (n - 1) (at + 1) (after b p) bs
+turn_at : (b : ℕ) (bs : List ℕ) (at n : ℕ) (p : Place) → item_of b bs ≡ Gap n
+    → lexed 0 at p (b ∷ bs) ≡ lexed (n - 1) (at + 1) (after b p) bs
 unfolding lexed
 turn_at b bs at n p e = ap (λ (x : Item). act at p x (λ k. lexed k (at + 1) (after b p) bs)) e
 
 item_blank : (b : ℕ) (bs : List ℕ) → is_blank b ≡ true → item_of b bs ≡ Gap 1
 item_blank b bs e = rw e refl
 
-item_hash : (b : ℕ) (bs : List ℕ) → is_blank b ≡ false → eqb b 35 ≡ true → item_of b bs ≡ Gap (prefix_len not_newline bs + 1)
+item_hash : (b : ℕ) (bs : List ℕ) → is_blank b ≡ false → eqb b 35 ≡ true
+    → item_of b bs ≡ Gap (prefix_len not_newline bs + 1)
 item_hash b bs e f = rw (e, f) refl
 
 left_end : (b : ℕ) (bs : List ℕ) → eqb b 10 ≡ true → left_of true (b ∷ bs) ≡ 0
@@ -62,7 +65,8 @@ gap_hash b g e f = rw (e, f) refl
 gap_none : (b : ℕ) (g : List ℕ) → is_blank b ≡ false → eqb b 35 ≡ false → gap_from false (b ∷ g) ≡ None
 gap_none b g e f = rw (e, f) refl
 
-blank_turn : (b : ℕ) (bs : List ℕ) (at : ℕ) (p : Place) → is_blank b ≡ true → lexed 0 at p (b ∷ bs) ≡ lexed 0 (at + 1) (after b p) bs
+blank_turn : (b : ℕ) (bs : List ℕ) (at : ℕ) (p : Place) → is_blank b ≡ true
+    → lexed 0 at p (b ∷ bs) ≡ lexed 0 (at + 1) (after b p) bs
 blank_turn b bs at p e = turn_at b bs at 1 p (item_blank b bs e)
 
 hash_turn : (b : ℕ) (bs : List ℕ) (at : ℕ) (p : Place) → is_blank b ≡ false → eqb b 35 ≡ true
@@ -81,7 +85,8 @@ unfolding lexed
 more_turn b bs at p e = ap (λ n. lexed n at p (b ∷ bs)) (left_more b bs e)
 
 -- one byte of a gap
-gap_turn : (c : Bool) (b : ℕ) (g rest : List ℕ) (at : ℕ) (p : Place) (d : Bool) (r : Answer) → gap_from c (b ∷ g) ≡ Some d
+gap_turn : (c : Bool) (b : ℕ) (g rest : List ℕ) (at : ℕ) (p : Place) (d : Bool) (r : Answer)
+    → gap_from c (b ∷ g) ≡ Some d
     → ((e : Bool) → gap_from e g ≡ Some d → lexed (left_of e (g ++ rest)) (at + 1) (after b p) (g ++ rest) ≡ r)
     → lexed (left_of c (b ∷ (g ++ rest))) at p (b ∷ (g ++ rest)) ≡ r
 gap_turn true b g rest at p d r h k = go (eqb b 10) refl
@@ -103,9 +108,11 @@ gap_passed true [] rest at p h = absurd cc
 gap_passed false [] rest at p h = let e : at + 0 ≡ at = omega arith in rw e refl
 gap_passed c (b ∷ g) rest at p h =
     let n : at + 1 + length g ≡ at + suc (length g) = omega arith in
-    gap_turn c b g rest at p false _ h (λ d k. gap_passed d g rest (at + 1) (after b p) k) ∙ ap (λ n. lexed 0 n (later g (after b p)) rest) n
+    gap_turn c b g rest at p false _ h (λ d k. gap_passed d g rest (at + 1) (after b p) k)
+    ∙ ap (λ n. lexed 0 n (later g (after b p)) rest) n
 
-pub last_gap : (c d : Bool) (g : List ℕ) (at : ℕ) (p : Place) → gap_from c g ≡ Some d → lexed (left_of c (g ++ [])) at p (g ++ []) ≡ Ok []
+pub last_gap : (c d : Bool) (g : List ℕ) (at : ℕ) (p : Place) → gap_from c g ≡ Some d
+    → lexed (left_of c (g ++ [])) at p (g ++ []) ≡ Ok []
 unfolding lexed
 last_gap c d [] at p h = refl
 last_gap c d (b ∷ g) at p h = gap_turn c b g [] at p d _ h (λ e k. last_gap e d g (at + 1) (after b p) k)

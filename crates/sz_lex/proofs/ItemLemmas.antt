@@ -40,7 +40,8 @@ single_quote_begins [] = refl
 single_quote_begins (c ∷ bs) = refl
 
 -- a letter begins no literal, unless it is the B of bytes
-pub letter_begins_none : (b : ℕ) (bs : List ℕ) → is_letter b ≡ true → ((t : List ℕ) → b ≡ 66 → bs ≡ 34 ∷ t → ⊥) → begins_literal (b ∷ bs) ≡ false
+pub letter_begins_none : (b : ℕ) (bs : List ℕ) → is_letter b ≡ true → ((t : List ℕ) → b ≡ 66 → bs ≡ 34 ∷ t → ⊥)
+    → begins_literal (b ∷ bs) ≡ false
 letter_begins_none b [] h no_b = let q = letter_no_quotes b h in rw (letter_no_digit b h, q.0, q.1) refl
 letter_begins_none b (c ∷ bs) h no_b = go (eqb b 66) (eqb c 34) refl refl
   where
@@ -54,7 +55,8 @@ letter_begins_none b (c ∷ bs) h no_b = go (eqb b 66) (eqb c 34) refl refl
 
 sign_begins_none : (b : ℕ) (bs : List ℕ) → BeginsSign b → begins_literal (b ∷ bs) ≡ false
 sign_begins_none b [] h = rw (h.digit, h.quotes.0, h.quotes.1) refl
-sign_begins_none b (c ∷ bs) h = let no_b : eqb b 66 ≡ false = go (eqb b 66) refl in rw (h.digit, h.quotes.0, h.quotes.1, no_b) refl
+sign_begins_none b (c ∷ bs) h = let no_b : eqb b 66 ≡ false = go (eqb b 66) refl in
+    rw (h.digit, h.quotes.0, h.quotes.1, no_b) refl
   where
     go : (x : Bool) → eqb b 66 ≡ x → eqb b 66 ≡ false
     go true p = apart (sym (ap is_letter (eqb-true b 66 p)) ∙ h.letter)
@@ -66,14 +68,20 @@ pub record OpensBytes (b : ℕ) (bs : List ℕ) : Type 0 where
   pub first : b ≡ 66
   pub second : bs ≡ 34 ∷ more
 
-pub opens_bytes : (b : ℕ) (bs : List ℕ) → begins_literal (b ∷ bs) ≡ true → is_digit b ≡ false → eqb b 34 ≡ false → eqb b 39 ≡ false → OpensBytes b bs
+pub opens_bytes : (b : ℕ) (bs : List ℕ) → begins_literal (b ∷ bs) ≡ true → is_digit b ≡ false → eqb b 34 ≡ false
+    → eqb b 39 ≡ false → OpensBytes b bs
 opens_bytes b [] h d q s = let no_more : false ≡ true = rw (d, q, s) at h in apart (sym no_more)
 opens_bytes b (c ∷ bs) h d q s = let both : (eqb b 66 && eqb c 34) ≡ true = rw (d, q, s) at h in let p =
-    and_parts (eqb b 66) (eqb c 34) both in record { more = bs; first = eqb-true b 66 p.0; second = ap (λ (x : ℕ). x ∷ bs) (eqb-true c 34 p.1) }
+    and_parts (eqb b 66) (eqb c 34) both in record {
+      more = bs;
+      first = eqb-true b 66 p.0;
+      second = ap (λ (x : ℕ). x ∷ bs) (eqb-true c 34 p.1);
+    }
 
 -- ---- the tests of an item, in their order
 
-pub literal_case : (b : ℕ) (bs : List ℕ) → is_blank b ≡ false → eqb b 35 ≡ false → begins_literal (b ∷ bs) ≡ true → item_of b bs ≡ literal_item b bs
+pub literal_case : (b : ℕ) (bs : List ℕ) → is_blank b ≡ false → eqb b 35 ≡ false → begins_literal (b ∷ bs) ≡ true
+    → item_of b bs ≡ literal_item b bs
 literal_case b bs e f g = rw (e, f, g) refl
 
 letter_case : (b : ℕ) (bs : List ℕ) → is_letter b ≡ true → begins_literal (b ∷ bs) ≡ false
@@ -84,7 +92,8 @@ pub other_case : (b : ℕ) (bs : List ℕ) → is_blank b ≡ false → eqb b 35
     → is_letter b ≡ false → item_of b bs ≡ sign_item (sign_at b (first bs))
 other_case b bs e f g h = rw (e, f, g, h) refl
 
-digit_literal : (b : ℕ) (bs : List ℕ) → is_digit b ≡ true → literal_item b bs ≡ number_item (number_of (take (prefix_len is_word
+digit_literal : (b : ℕ) (bs : List ℕ) → is_digit b ≡ true
+    → literal_item b bs ≡ number_item (number_of (take (prefix_len is_word
     (b ∷ bs)) (b ∷ bs))) (prefix_len is_word (b ∷ bs))
 digit_literal b bs h = rw h refl
 
@@ -104,31 +113,40 @@ no_quote_word : (t : List ℕ) → all_word (34 ∷ t) ≡ true → ⊥
 no_quote_word t h = apart (sym (and_parts false (all_word t) h).0)
 
 -- a longest name is not the B of bytes
-not_opening : (b : ℕ) (l rest : List ℕ) → all_word l ≡ true → IsLongest (b ∷ l) rest → (t : List ℕ) → b ≡ 66 → l ++ rest ≡ 34 ∷ t → ⊥
-not_opening b [] rest all longest t is e = nil_cons (sym (longest (34 ∷ []) t e (opens (ap (λ (x : ℕ). x ∷ 34 ∷ []) is))))
+not_opening : (b : ℕ) (l rest : List ℕ) → all_word l ≡ true → IsLongest (b ∷ l) rest → (t : List ℕ) → b ≡ 66
+    → l ++ rest ≡ 34 ∷ t → ⊥
+not_opening b [] rest all longest t is e =
+    nil_cons (sym (longest (34 ∷ []) t e (opens (ap (λ (x : ℕ). x ∷ 34 ∷ []) is))))
 not_opening b (d ∷ l) rest all longest t is e = no_quote_word l (ap (λ (x : ℕ). all_word (x ∷ l)) (sym (heads e)) ∙ all)
 
-pub name_item : (b : ℕ) (l rest : List ℕ) → IsName (b ∷ l) → Stops rest → ((t : List ℕ) → b ≡ 66 → l ++ rest ≡ 34 ∷ t → ⊥)
+pub name_item : (b : ℕ) (l rest : List ℕ) → IsName (b ∷ l) → Stops rest
+    → ((t : List ℕ) → b ≡ 66 → l ++ rest ≡ 34 ∷ t → ⊥)
     → item_of b (l ++ rest) ≡ Lexeme (word_kind (b ∷ l)) (suc (length l))
 name_item b l rest h stops no_b =
-    let n : prefix_len is_word (b ∷ (l ++ rest)) ≡ suc (length l) = prefix_all (b ∷ l) rest (rw (letter_word b h.0) h.1) stops in
+    let n : prefix_len is_word (b ∷ (l ++ rest)) ≡ suc (length l) =
+    prefix_all (b ∷ l) rest (rw (letter_word b h.0) h.1) stops in
     let t : take (suc (length l)) (b ∷ (l ++ rest)) ≡ b ∷ l = take_at (b ∷ l) rest (suc (length l)) refl in
     letter_case b (l ++ rest) h.0 (letter_begins_none b (l ++ rest) h.0 no_b)
-    ∙ ap (λ m. Lexeme (word_kind (take m (b ∷ (l ++ rest)))) m) n ∙ ap (λ (x : List ℕ). Lexeme (word_kind x) (suc (length l))) t
+    ∙ ap (λ m. Lexeme (word_kind (take m (b ∷ (l ++ rest)))) m) n
+    ∙ ap (λ (x : List ℕ). Lexeme (word_kind x) (suc (length l))) t
 
-word_item : (b : ℕ) (l rest : List ℕ) → IsName (b ∷ l) → IsLongest (b ∷ l) rest → item_of b (l ++ rest) ≡ Lexeme (word_kind (b ∷ l)) (suc (length l))
+word_item : (b : ℕ) (l rest : List ℕ) → IsName (b ∷ l) → IsLongest (b ∷ l) rest
+    → item_of b (l ++ rest) ≡ Lexeme (word_kind (b ∷ l)) (suc (length l))
 word_item b l rest h longest = name_item b l rest h (stops_of (b ∷ l) rest (λ c w. name (
   h.0,
   all_word_push l c h.1 w,
 )) longest) (not_opening b l rest h.1 longest)
 
-pub number_item_is : (b : ℕ) (l rest : List ℕ) → IsRun (b ∷ l) → Stops rest → item_of b (l ++ rest) ≡ number_item (number_of (b ∷ l)) (suc (length l))
+pub number_item_is : (b : ℕ) (l rest : List ℕ) → IsRun (b ∷ l) → Stops rest
+    → item_of b (l ++ rest) ≡ number_item (number_of (b ∷ l)) (suc (length l))
 number_item_is b l rest h stops =
-    let n : prefix_len is_word (b ∷ (l ++ rest)) ≡ suc (length l) = prefix_all (b ∷ l) rest (rw (digit_word b h.0) h.1) stops in
+    let n : prefix_len is_word (b ∷ (l ++ rest)) ≡ suc (length l) =
+    prefix_all (b ∷ l) rest (rw (digit_word b h.0) h.1) stops in
     let t : take (suc (length l)) (b ∷ (l ++ rest)) ≡ b ∷ l = take_at (b ∷ l) rest (suc (length l)) refl in
     literal_case b (l ++ rest) (digit_no_blank b h.0) (digit_no_hash b h.0) (digit_begins b (l ++ rest) h.0)
     ∙ digit_literal b (l ++ rest) h.0
-    ∙ ap (λ m. number_item (number_of (take m (b ∷ (l ++ rest)))) m) n ∙ ap (λ (x : List ℕ). number_item (number_of x) (suc (length l))) t
+    ∙ ap (λ m. number_item (number_of (take m (b ∷ (l ++ rest)))) m) n
+    ∙ ap (λ (x : List ℕ). number_item (number_of x) (suc (length l))) t
 
 no_word_found : (text : List ℕ) → ((w : Word) → text ≢ word_text w) → word_of text ≡ None
 no_word_found text h = go (word_of text) refl
@@ -169,7 +187,8 @@ no_empty kinds.Str h = nil_cons h.1.spelled
 no_empty kinds.Bytes h = nil_cons h.1.spelled
 no_empty (kinds.Sign s) h = none_some (ap sign_of h ∙ sign_again s)
 
-character_lexeme : (b c : ℕ) (l rest : List ℕ) → IsCharacter (b ∷ l) c → item_of b (l ++ rest) ≡ Lexeme (kinds.Character c) (suc (length l))
+character_lexeme : (b c : ℕ) (l rest : List ℕ) → IsCharacter (b ∷ l) c
+    → item_of b (l ++ rest) ≡ Lexeme (kinds.Character c) (suc (length l))
 character_lexeme b c l rest h =
     let n : length l + 1 ≡ suc (length l) = omega arith in
     ap (λ (x : ℕ). item_of x (l ++ rest)) (character_quote b c l h)
@@ -177,7 +196,8 @@ character_lexeme b c l rest h =
     ∙ ap character_item (character_read b c l rest h)
     ∙ ap (λ (m : ℕ). Lexeme (kinds.Character c) m) n
 
-str_lexeme : (b : ℕ) (l v rest : List ℕ) → IsQuoted quoteds.Str (b ∷ l) v → item_of b (l ++ rest) ≡ Lexeme kinds.Str (suc (length l))
+str_lexeme : (b : ℕ) (l v rest : List ℕ) → IsQuoted quoteds.Str (b ∷ l) v
+    → item_of b (l ++ rest) ≡ Lexeme kinds.Str (suc (length l))
 str_lexeme b l v rest h =
     let o = opened quoteds.Str (b ∷ l) v h in
     let n : 1 + length o.body ≡ suc (length l) = omega (arith, ap length o.spelled) in
@@ -187,7 +207,8 @@ str_lexeme b l v rest h =
     ∙ ap (quoted_item quoteds.Str) (o.read rest)
     ∙ ap (λ (m : ℕ). Lexeme kinds.Str m) n
 
-bytes_lexeme : (b : ℕ) (l v rest : List ℕ) → IsQuoted quoteds.Bytes (b ∷ l) v → item_of b (l ++ rest) ≡ Lexeme kinds.Bytes (suc (length l))
+bytes_lexeme : (b : ℕ) (l v rest : List ℕ) → IsQuoted quoteds.Bytes (b ∷ l) v
+    → item_of b (l ++ rest) ≡ Lexeme kinds.Bytes (suc (length l))
 bytes_lexeme b l v rest h =
     let o = opened quoteds.Bytes (b ∷ l) v h in
     let n : 2 + length o.body ≡ suc (length l) = omega (arith, ap length o.spelled) in
@@ -203,7 +224,8 @@ sign_lexeme s b l rest h longest =
     other_case b (l ++ rest) f.blank f.hash (sign_begins_none b (l ++ rest) f) f.letter
     ∙ ap sign_item (sign_here s b l rest (ap sign_of h ∙ sign_again s) longest)
 
-lexeme_of : (k : Kind) (b : ℕ) (l rest : List ℕ) → IsLexeme k (b ∷ l) → IsLongest (b ∷ l) rest → item_of b (l ++ rest) ≡ Lexeme k (suc (length l))
+lexeme_of : (k : Kind) (b : ℕ) (l rest : List ℕ) → IsLexeme k (b ∷ l) → IsLongest (b ∷ l) rest
+    → item_of b (l ++ rest) ≡ Lexeme k (suc (length l))
 lexeme_of kinds.Name b l rest h longest = word_item b l rest h.0 longest
     ∙ ap (λ (o : Option Word). Lexeme (kind_of o) (suc (length l))) (no_word_found (b ∷ l) h.1)
 lexeme_of (kinds.Word w) b l rest h longest = word_item b l rest (subst IsName (sym h) (word_is_name w)) longest

@@ -20,8 +20,10 @@ pub one_list : HasOneList
 one_list text ts us h k = let both = sym (tokens_given text ts h.tokens) ∙ tokens_given text us k.tokens in cc
 
 pub no_refusal : HasNoRefusal
-no_refusal text ts (errors.BadChar q) h k = let both = sym (tokens_given text ts h.tokens) ∙ char_given text q k.before k.tokens in absurd cc
-no_refusal text ts (errors.BadLiteral q) h k = let both = sym (tokens_given text ts h.tokens) ∙ literal_given text q k.before k.tokens in absurd cc
+no_refusal text ts (errors.BadChar q) h k =
+    let both = sym (tokens_given text ts h.tokens) ∙ char_given text q k.before k.tokens in absurd cc
+no_refusal text ts (errors.BadLiteral q) h k =
+    let both = sym (tokens_given text ts h.tokens) ∙ literal_given text q k.before k.tokens in absurd cc
 no_refusal text ts (errors.NotUtf8 q) h k = not_whole text k.len k.front h.utf8
 no_refusal text ts errors.NoMemory h k = k
 
@@ -34,8 +36,8 @@ one_refusal text (errors.BadChar p) (errors.NotUtf8 q) h k = absurd (not_whole t
 one_refusal text (errors.BadChar p) errors.NoMemory h k = absurd k
 one_refusal text (errors.BadLiteral p) (errors.BadChar q) h k = let both = sym (literal_given text p h.before h.tokens)
     ∙ char_given text q k.before k.tokens in absurd cc
-one_refusal text (errors.BadLiteral p) (errors.BadLiteral q) h k = let both = sym (literal_given text p h.before h.tokens)
-    ∙ literal_given text q k.before k.tokens in cc
+one_refusal text (errors.BadLiteral p) (errors.BadLiteral q) h k =
+    let both = sym (literal_given text p h.before h.tokens) ∙ literal_given text q k.before k.tokens in cc
 one_refusal text (errors.BadLiteral p) (errors.NotUtf8 q) h k = absurd (not_whole text k.len k.front h.utf8)
 one_refusal text (errors.BadLiteral p) errors.NoMemory h k = absurd k
 one_refusal text (errors.NotUtf8 p) (errors.BadChar q) h k = absurd (not_whole text h.len h.front k.utf8)
@@ -73,13 +75,15 @@ record InText (text : List ℕ) (q : Place) : Type 0 where
   parts : text ≡ before ++ (byte ∷ rest)
   place : q ≡ later before first_place
 
-placed : (text : List ℕ) (q : Place) → InText text q → (at : ℕ) × (at < length text) × (q ≡ later (take at text) first_place)
+placed : (text : List ℕ) (q : Place) → InText text q
+    → (at : ℕ) × (at < length text) × (q ≡ later (take at text) first_place)
 placed text q h =
     let n = length h.before in (
       n,
       omega (arith, ap length h.parts, length-append h.before (h.byte ∷ h.rest)),
       h.place
-          ∙ ap (λ (t : List ℕ). later t first_place) (sym (ap (take n) h.parts ∙ take_at h.before (h.byte ∷ h.rest) n refl)),
+          ∙ ap (λ (t : List ℕ). later t first_place)
+          (sym (ap (take n) h.parts ∙ take_at h.before (h.byte ∷ h.rest) n refl)),
     )
 
 -- where a tail's place is in what it speaks of
@@ -105,11 +109,13 @@ literal_inside q c at before text whole e h = go h.rest refl
       before = before ++ h.gap;
       byte = b;
       rest = rest;
-      parts = e ∙ ap (λ (t : List ℕ). before ++ t) (h.parts ∙ ap (λ (t : List ℕ). h.gap ++ t) f) ∙ sym (append_assoc before h.gap (b ∷ rest));
+      parts = e ∙ ap (λ (t : List ℕ). before ++ t) (h.parts ∙ ap (λ (t : List ℕ). h.gap ++ t) f)
+          ∙ sym (append_assoc before h.gap (b ∷ rest));
       place = h.place ∙ sym (later-append before h.gap first_place);
     }
 
-tail_inside : (P : Place → Tail) → IsInside P → (q : Place) (ts : List Token) (c : Bool) (at : ℕ) (before text whole : List ℕ)
+tail_inside : (P : Place → Tail) → IsInside P
+    → (q : Place) (ts : List Token) (c : Bool) (at : ℕ) (before text whole : List ℕ)
     → whole ≡ before ++ text → TokensThen (P q) ts c at (later before first_place) text → InText whole q
 unfolding TokensThen
 tail_inside P inside q [] c at before text whole e h = inside q c at before text whole e h
@@ -117,14 +123,18 @@ tail_inside P inside q (t ∷ ts) c at before text whole e h =
     let n = h.0 in
     let parts : whole ≡ before ++ n.gap ++ n.lexeme ++ n.rest = e ∙ ap (λ (x : List ℕ). before ++ x) n.parts
     ∙ sym (append_assoc before n.gap (n.lexeme ++ n.rest)) ∙ sym (append_assoc (before ++ n.gap) n.lexeme n.rest) in
-    let place : later n.lexeme (later n.gap (later before first_place)) ≡ later (before ++ n.gap ++ n.lexeme) first_place =
-    ap (later n.lexeme) (sym (later-append before n.gap first_place)) ∙ sym (later-append (before ++ n.gap) n.lexeme first_place) in
+    let place : later n.lexeme (later n.gap (later before first_place))
+    ≡ later (before ++ n.gap ++ n.lexeme) first_place =
+    ap (later n.lexeme) (sym (later-append before n.gap first_place))
+    ∙ sym (later-append (before ++ n.gap) n.lexeme first_place) in
     tail_inside P inside q ts false _ (before ++ n.gap ++ n.lexeme) n.rest whole parts (subst (λ (p : Place). TokensThen
     (P q) ts false (at + length n.gap + length n.lexeme) p n.rest) place h.1)
 
 pub refused_in_text : RefusedPlaceIsInText
-refused_in_text text (errors.BadChar q) h = placed text q (tail_inside BadCharAt char_inside q h.before false 0 [] text text refl h.tokens)
-refused_in_text text (errors.BadLiteral q) h = placed text q (tail_inside BadLiteralAt literal_inside q h.before false 0 [] text text refl h.tokens)
+refused_in_text text (errors.BadChar q) h =
+    placed text q (tail_inside BadCharAt char_inside q h.before false 0 [] text text refl h.tokens)
+refused_in_text text (errors.BadLiteral q) h =
+    placed text q (tail_inside BadLiteralAt literal_inside q h.before false 0 [] text text refl h.tokens)
 refused_in_text text (errors.NotUtf8 q) h = (h.len, h.front.short, h.place)
 refused_in_text text errors.NoMemory h = absurd h
 
@@ -142,26 +152,29 @@ in_order (t ∷ ts) before text whole e h =
     ∙ sym (append_assoc before n.gap (n.lexeme ++ n.rest)) in
     let parts : whole ≡ front ++ n.lexeme ++ n.rest = rest ∙ sym (append_assoc front n.lexeme n.rest) in
     let start : length front ≡ t.start = length-append before n.gap ∙ sym n.start in
-    let size : length (front ++ n.lexeme) ≡ t.start + t.len = omega (arith, length-append front n.lexeme, start, n.len) in
+    let size : length (front ++ n.lexeme) ≡ t.start + t.len =
+    omega (arith, length-append front n.lexeme, start, n.len) in
     let gap_len : length n.gap ≡ t.start - length before = omega (arith, n.start) in
     let left : drop (length before) whole ≡ n.gap ++ (n.lexeme ++ n.rest) = ap (drop (length before)) e
     ∙ drop_at before text (length before) refl ∙ n.parts in
-    let gap : take (t.start - length before) (drop (length before) whole) ≡ n.gap = ap (take (t.start - length before)) left
-    ∙ take_at n.gap (n.lexeme ++ n.rest) (t.start - length before) gap_len in
+    let gap : take (t.start - length before) (drop (length before) whole) ≡ n.gap =
+    ap (take (t.start - length before)) left ∙ take_at n.gap (n.lexeme ++ n.rest) (t.start - length before) gap_len in
     let lexeme : lexeme_of whole t ≡ n.lexeme = ap (λ (x : List ℕ). take t.len (drop t.start x)) rest
     ∙ ap (take t.len) (drop_at front (n.lexeme ++ n.rest) t.start start) ∙ take_at n.lexeme n.rest t.len (sym n.len) in
     let place : later n.lexeme (later n.gap (later before first_place)) ≡ later (front ++ n.lexeme) first_place =
     ap (later n.lexeme) (sym (later-append before n.gap first_place)) ∙ sym (later-append front n.lexeme first_place) in
     let index : length before + length n.gap + length n.lexeme ≡ length (front ++ n.lexeme) =
     omega (arith, length-append front n.lexeme, length-append before n.gap) in
-    let more = in_order ts (front ++ n.lexeme) n.rest whole parts (subst (λ (i : ℕ). TokensThen Nothing ts false i (later
+    let more =
+    in_order ts (front ++ n.lexeme) n.rest whole parts (subst (λ (i : ℕ). TokensThen Nothing ts false i (later
     (front ++ n.lexeme) first_place) n.rest) index (subst (λ (p : Place). TokensThen Nothing ts false
     (length before + length n.gap + length n.lexeme) p n.rest) place h.1)) in (
       omega (arith, n.start),
       omega (arith, size, ap length parts, length-append (front ++ n.lexeme) n.rest),
       (false, ap (gap_from false) gap ∙ n.closed),
       n.place ∙ sym (later-append before n.gap first_place)
-          ∙ ap (λ (x : List ℕ). later x first_place) (sym (ap (take t.start) rest ∙ take_at front (n.lexeme ++ n.rest) t.start start)),
+          ∙ ap (λ (x : List ℕ). later x first_place)
+          (sym (ap (take t.start) rest ∙ take_at front (n.lexeme ++ n.rest) t.start start)),
       subst (IsLexeme t.kind) (sym lexeme) n.spelled,
       subst (λ (i : ℕ). LieInOrder whole i ts) size more,
     )

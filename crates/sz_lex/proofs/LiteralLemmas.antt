@@ -58,7 +58,8 @@ pub escape_read : (text rest : List ℕ) (e : Escape) → escape_of text ≡ Som
 escape_read [] rest e h = none_some h
 escape_read (k ∷ t) rest e h = ap escape_of (take_at (k ∷ t) rest (escape_size k) (sym (size_of (k ∷ t) e h))) ∙ h
 
-pub first_front : (text rest : List ℕ) (e : Escape) → escape_of text ≡ Some e → escape_size (first (text ++ rest)) ≡ length text
+pub first_front : (text rest : List ℕ) (e : Escape) → escape_of text ≡ Some e
+    → escape_size (first (text ++ rest)) ≡ length text
 first_front [] rest e h = none_some h
 first_front (k ∷ t) rest e h = size_of (k ∷ t) e h
 
@@ -103,11 +104,13 @@ ahead n o = option_map (λ (b : Body). record { len = n + b.len; value = b.value
 
 longer_ahead : (n : ℕ) (o : Option Body) → longer [] (ahead n o) ≡ ahead (suc n) o
 longer_ahead n None = refl
-longer_ahead n (Some b) = let e : suc (n + b.len) ≡ suc n + b.len = omega arith in ap (λ (m : ℕ). Some (record { len = m; value = b.value })) e
+longer_ahead n (Some b) = let e : suc (n + b.len) ≡ suc n + b.len = omega arith in
+    ap (λ (m : ℕ). Some (record { len = m; value = b.value })) e
 
 ahead_zero : (o : Option Body) → o ≡ ahead 0 o
 ahead_zero None = refl
-ahead_zero (Some b) = let e : b.len ≡ 0 + b.len = omega arith in ap (λ (m : ℕ). Some (record { len = m; value = b.value })) e
+ahead_zero (Some b) = let e : b.len ≡ 0 + b.len = omega arith in
+    ap (λ (m : ℕ). Some (record { len = m; value = b.value })) e
 
 -- bytes of an escape are passed
 pub skipped : (q : Quoted) (l more : List ℕ) → body_at q (length l) (l ++ more) ≡ ahead (length l) (body_at q 0 more)
@@ -131,19 +134,21 @@ at_escape q bs v e = ap (option_and_then (λ (v : List ℕ). longer v (body_at q
 plain_tests : (b : ℕ) → is_plain b ≡ true → (eqb b 34 ≡ false) × (eqb b 92 ≡ false) × (eqb b 10 ≡ false)
 plain_tests b h = go (eqb b 34) (eqb b 92) (eqb b 10) refl refl refl
   where
-    go : (x y z : Bool) → eqb b 34 ≡ x → eqb b 92 ≡ y → eqb b 10 ≡ z → (eqb b 34 ≡ false) × (eqb b 92 ≡ false) × (eqb b 10 ≡ false)
+    go : (x y z : Bool) → eqb b 34 ≡ x → eqb b 92 ≡ y → eqb b 10 ≡ z
+        → (eqb b 34 ≡ false) × (eqb b 92 ≡ false) × (eqb b 10 ≡ false)
     go true y z p q r = let no : false ≡ true = rw p at h in absurd cc
     go false true z p q r = let no : false ≡ true = rw (p, q) at h in absurd cc
     go false false true p q r = let no : false ≡ true = rw (p, q, r) at h in absurd cc
     go false false false p q r = (p, q, r)
 
-pub at_plain : (q : Quoted) (b : ℕ) (bs : List ℕ) → is_plain b ≡ true → body_at q 0 (b ∷ bs) ≡ longer (b ∷ []) (body_at q 0 bs)
+pub at_plain : (q : Quoted) (b : ℕ) (bs : List ℕ) → is_plain b ≡ true
+    → body_at q 0 (b ∷ bs) ≡ longer (b ∷ []) (body_at q 0 bs)
 unfolding body_at
 at_plain q b bs h = let t = plain_tests b h in rw (t.0, t.1, t.2) refl
 
 -- the value of one part more
-value_step : (q : Quoted) (p : Part) (ps : List Part) (v vs : List ℕ) → part_value q p ≡ Some v → parts_value q ps ≡ Some vs
-    → parts_value q (p ∷ ps) ≡ Some (v ++ vs)
+value_step : (q : Quoted) (p : Part) (ps : List Part) (v vs : List ℕ) → part_value q p ≡ Some v
+    → parts_value q ps ≡ Some vs → parts_value q (p ∷ ps) ≡ Some (v ++ vs)
 value_step q p ps v vs e f = rw e (rw f refl)
 
 -- the values of a part and of those after it
@@ -154,7 +159,8 @@ pub record Values (q : Quoted) (p : Part) (ps : List Part) (value : List ℕ) : 
   pub more : parts_value q ps ≡ Some vs
   pub joined : value ≡ v ++ vs
 
-pub values_of : (q : Quoted) (p : Part) (ps : List Part) (value : List ℕ) → parts_value q (p ∷ ps) ≡ Some value → Values q p ps value
+pub values_of : (q : Quoted) (p : Part) (ps : List Part) (value : List ℕ) → parts_value q (p ∷ ps) ≡ Some value
+    → Values q p ps value
 values_of q p ps value h = go (part_value q p) (parts_value q ps) refl refl
   where
     go : (o m : Option (List ℕ)) → part_value q p ≡ o → parts_value q ps ≡ m → Values q p ps value
@@ -175,7 +181,8 @@ pub record Escaped (q : Quoted) (text v : List ℕ) : Type 0 where
   pub is : escape_of text ≡ Some e
   pub bytes : escape_bytes q e ≡ Some v
 
-pub escaped_of : (q : Quoted) (text v : List ℕ) → option_and_then (escape_bytes q) (escape_of text) ≡ Some v → Escaped q text v
+pub escaped_of : (q : Quoted) (text v : List ℕ) → option_and_then (escape_bytes q) (escape_of text) ≡ Some v
+    → Escaped q text v
 escaped_of q text v h = go (escape_of text) refl
   where
     go : (o : Option Escape) → escape_of text ≡ o → Escaped q text v
@@ -195,7 +202,8 @@ plain_value b v h = let is : Some (b ∷ []) ≡ Some v = rw (plain_is b v h) at
 -- what is written as parts is read
 pub body_read : (q : Quoted) (ps : List Part) (rest value : List ℕ) → parts_value q ps ≡ Some value
     → body_at q 0 (parts_text ps ++ (34 ∷ rest)) ≡ Some (record { len = suc (length (parts_text ps)); value = value })
-body_read q [] rest value h = at_quote q rest ∙ (let e : [] ≡ value = cc in ap (λ (v : List ℕ). Some (record { len = 1; value = v })) e)
+body_read q [] rest value h =
+    at_quote q rest ∙ (let e : [] ≡ value = cc in ap (λ (v : List ℕ). Some (record { len = 1; value = v })) e)
 body_read q (plain b ∷ ps) rest value h =
     let vs = values_of q (plain b) ps value h in
     let p : is_plain b ≡ true = plain_is b vs.v vs.one in
@@ -281,7 +289,8 @@ plain_body q n again c bs b le p h =
       rest = r.rest;
       text = ap (λ (t : List ℕ). c ∷ t) r.text;
       len = l.len ∙ ap suc r.len;
-      value = value_step q (plain c) r.ps (c ∷ []) l.rest.value (rw p refl) r.value ∙ ap (λ (v : List ℕ). Some v) (sym l.value);
+      value = value_step q (plain c) r.ps (c ∷ []) l.rest.value (rw p refl) r.value
+          ∙ ap (λ (v : List ℕ). Some v) (sym l.value);
     }
 
 escape_body : (q : Quoted) (n : ℕ) → Again q n → (bs v : List ℕ) (e : Escape) (b : Body) → length bs ≤ n → EscapeAt bs e
@@ -303,7 +312,8 @@ escape_body q n again bs v e b le x bytes h =
           ∙ ap (λ (w : List ℕ). Some w) (ap (λ (w : List ℕ). v ++ w) (sym a.value) ∙ sym l.value);
     }
 
-quote_body : (q : Quoted) (bs : List ℕ) (b : Body) → Some (record { len = 1; value = [] }) ≡ Some b → BodyAt q (34 ∷ bs) b
+quote_body : (q : Quoted) (bs : List ℕ) (b : Body) → Some (record { len = 1; value = [] }) ≡ Some b
+    → BodyAt q (34 ∷ bs) b
 quote_body q bs b h = let same : record { len = 1; value = [] } ≡ b = some_is h in record {
   ps = [];
   rest = bs;
@@ -316,7 +326,8 @@ quote_body q bs b h = let same : record { len = 1; value = [] } ≡ b = some_is 
     some_is : {x y : Body} → Some x ≡ Some y → x ≡ y
     some_is e = cc
 
-body_step : (q : Quoted) (n : ℕ) → Again q n → (c : ℕ) (bs : List ℕ) (b : Body) → length bs ≤ n → body_at q 0 (c ∷ bs) ≡ Some b → BodyAt q (c ∷ bs) b
+body_step : (q : Quoted) (n : ℕ) → Again q n → (c : ℕ) (bs : List ℕ) (b : Body) → length bs ≤ n
+    → body_at q 0 (c ∷ bs) ≡ Some b → BodyAt q (c ∷ bs) b
 unfolding body_at
 body_step q n again c bs b le h = go (eqb c 34) (eqb c 92) (eqb c 10) refl refl refl
   where
@@ -326,13 +337,16 @@ body_step q n again c bs b le h = go (eqb c 34) (eqb c 92) (eqb c 10) refl refl 
       where
         stands : (o : Option (List ℕ)) → escape_bytes q x ≡ o → BodyAt q (92 ∷ bs) b
         stands None f = let no : None ≡ Some b = rw f at (rw e at k) in none_some no
-        stands (Some v) f = escape_body q n again bs v x b le (escape_is bs x e) f (sym (at_escape q bs v (ap (option_and_then
+        stands (Some v) f =
+            escape_body q n again bs v x b le (escape_is bs x e) f (sym (at_escape q bs v (ap (option_and_then
             (escape_bytes q)) e ∙ f)) ∙ k)
 
     go : (x y z : Bool) → eqb c 34 ≡ x → eqb c 92 ≡ y → eqb c 10 ≡ z → BodyAt q (c ∷ bs) b
-    go true y z p r s = let same : 34 ≡ c = sym (eqb-true c 34 p) in subst (λ (m : ℕ). BodyAt q (m ∷ bs) b) same (quote_body q bs b
+    go true y z p r s = let same : 34 ≡ c = sym (eqb-true c 34 p) in
+        subst (λ (m : ℕ). BodyAt q (m ∷ bs) b) same (quote_body q bs b
         (rw (← same) at h))
-    go false true z p r s = let same : 92 ≡ c = sym (eqb-true c 92 r) in subst (λ (m : ℕ). BodyAt q (m ∷ bs) b) same (escaped
+    go false true z p r s = let same : 92 ≡ c = sym (eqb-true c 92 r) in
+        subst (λ (m : ℕ). BodyAt q (m ∷ bs) b) same (escaped
         (escape_at bs) refl (subst (λ (m : ℕ). body_at q 0 (m ∷ bs) ≡ Some b) (sym same) h))
     go false false true p r s = let no : None ≡ Some b = rw (p, r, s) at h in none_some no
     go false false false p r s = plain_body q n again c bs b le (rw (p, r, s) refl) (rw (p, r, s) at h)

@@ -28,7 +28,8 @@ grows base n (b ∷ ds) m some h = go (nat_lt (digit_value b) base) refl (grows 
   where
     go : (x : Bool) → nat_lt (digit_value b) base ≡ x → (digits_from base (n * base + digit_value b) ds ≡ Some m
         → n * base + digit_value b ≤ m) → n ≤ m
-    go true e again = let more : n * base + digit_value b ≤ m = again (rw e at h) in omega (arith, more, scaled base n (digit_value b) some)
+    go true e again = let more : n * base + digit_value b ≤ m = again (rw e at h) in
+        omega (arith, more, scaled base n (digit_value b) some)
     go false e again = let nothing : None ≡ Some m = rw e at h in none_some nothing
 
 pub too_large : (base n limit : ℕ) (ds : List ℕ) → 1 ≤ base → limit ≤ n → below limit (digits_from base n ds) ≡ None
@@ -46,7 +47,8 @@ pub record Pushed (base n b m : ℕ) (ds : List ℕ) : Type 0 where
 pub pushed : (base n b m : ℕ) (ds : List ℕ) → push_digit base n b ≡ Some m → Pushed base n b m ds
 pushed base n b m ds h = go (nat_lt (digit_value b) base) (nat_lt (n * base + digit_value b) (2 ^ 64)) refl refl
   where
-    go : (x y : Bool) → nat_lt (digit_value b) base ≡ x → nat_lt (n * base + digit_value b) (2 ^ 64) ≡ y → Pushed base n b m ds
+    go : (x y : Bool) → nat_lt (digit_value b) base ≡ x → nat_lt (n * base + digit_value b) (2 ^ 64) ≡ y
+        → Pushed base n b m ds
     go false y e f = let nothing : None ≡ Some m = rw e at h in none_some nothing
     go true false e f = let nothing : None ≡ Some m = rw f at (rw e at h) in none_some nothing
     go true true e f =
@@ -59,7 +61,8 @@ pushed base n b m ds h = go (nat_lt (digit_value b) base) (nat_lt (n * base + di
         }
 
 -- no number goes on with this byte
-pub not_pushed : (base n b : ℕ) (ds : List ℕ) → 1 ≤ base → push_digit base n b ≡ None → below (2 ^ 64) (digits_from base n (b ∷ ds)) ≡ None
+pub not_pushed : (base n b : ℕ) (ds : List ℕ) → 1 ≤ base → push_digit base n b ≡ None
+    → below (2 ^ 64) (digits_from base n (b ∷ ds)) ≡ None
 not_pushed base n b ds some h = go (nat_lt (digit_value b) base) (nat_lt (n * base + digit_value b) (2 ^ 64)) refl refl
   where
     go : (x y : Bool) → nat_lt (digit_value b) base ≡ x → nat_lt (n * base + digit_value b) (2 ^ 64) ≡ y
@@ -69,18 +72,21 @@ not_pushed base n b ds some h = go (nat_lt (digit_value b) base) (nat_lt (n * ba
       where
         not_below : nat_lt (n * base + digit_value b) (2 ^ 64) ≡ false → 2 ^ 64 ≤ n * base + digit_value b
         not_below f = ltb-false (n * base + digit_value b) (2 ^ 64) f
-    go true true e f = let something : Some (n * base + digit_value b) ≡ None = rw f at (rw e at h) in none_some (sym something)
+    go true true e f = let something : Some (n * base + digit_value b) ≡ None = rw f at (rw e at h) in
+        none_some (sym something)
 
 -- digits to base 16 are below 16 to the power of their number
 pub hexadecimal_below : (n : ℕ) (ds : List ℕ) (m k : ℕ) → n < k → digits_from 16 n ds ≡ Some m → m < k * 16 ^ length ds
 hexadecimal_below n [] m k lt h = let same : n ≡ m = cc in omega (arith, same)
-hexadecimal_below n (b ∷ ds) m k lt h = go (nat_lt (digit_value b) 16) refl (hexadecimal_below (n * 16 + digit_value b) ds m (k * 16))
+hexadecimal_below n (b ∷ ds) m k lt h =
+    go (nat_lt (digit_value b) 16) refl (hexadecimal_below (n * 16 + digit_value b) ds m (k * 16))
   where
     power : k * 16 * 16 ^ length ds ≡ k * 16 ^ suc (length ds)
     power = mul_assoc k 16 (16 ^ length ds) ∙ ap (λ (x : ℕ). k * x) (sym (pow-succ' 16 (length ds)))
 
     go : (x : Bool) → nat_lt (digit_value b) 16 ≡ x → (n * 16 + digit_value b < k * 16
-        → digits_from 16 (n * 16 + digit_value b) ds ≡ Some m → m < k * 16 * 16 ^ length ds) → m < k * 16 ^ suc (length ds)
+        → digits_from 16 (n * 16 + digit_value b) ds ≡ Some m → m < k * 16 * 16 ^ length ds)
+        → m < k * 16 ^ suc (length ds)
     go false e again = let nothing : None ≡ Some m = rw e at h in none_some nothing
     go true e again = rw (← power) (again (omega (arith, ltb-true (digit_value b) 16 e)) (rw e at h))
 

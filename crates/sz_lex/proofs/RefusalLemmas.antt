@@ -21,8 +21,10 @@ use Rattle.sz_lex.proofs.FrontLemmas.{At, at_is, word_lexeme, BeginsNone, Front,
 
 -- ---- refusals
 
-blank_no_literal : (b : ℕ) → is_blank b ≡ true → (is_digit b ≡ false) × (eqb b 34 ≡ false) × (eqb b 39 ≡ false) × (eqb b 66 ≡ false)
-blank_no_literal b h = (grind (arith, nat_tests), grind (arith, nat_tests), grind (arith, nat_tests), grind (arith, nat_tests))
+blank_no_literal : (b : ℕ) → is_blank b ≡ true
+    → (is_digit b ≡ false) × (eqb b 34 ≡ false) × (eqb b 39 ≡ false) × (eqb b 66 ≡ false)
+blank_no_literal b h =
+    (grind (arith, nat_tests), grind (arith, nat_tests), grind (arith, nat_tests), grind (arith, nat_tests))
 
 blank_begins_none : (b : ℕ) (bs : List ℕ) → is_blank b ≡ true → begins_literal (b ∷ bs) ≡ false
 blank_begins_none b [] h = let t = blank_no_literal b h in rw (t.0, t.1, t.2) refl
@@ -44,7 +46,8 @@ digit_range b h = (grind (arith, nat_tests), grind (arith, nat_tests))
 digit_value_is : (b : ℕ) → is_digit b ≡ true → (v : ℤ) × (number_of (b ∷ []) ≡ Some v)
 digit_value_is b h =
     let value = digit_value_digit b (digit_range b h) in
-    let low : nat_lt (digit_value b) 10 ≡ true = lt-ltb (digit_value b) 10 (omega (arith, value, (digit_range b h).1)) in
+    let low : nat_lt (digit_value b) 10 ≡ true =
+    lt-ltb (digit_value b) 10 (omega (arith, value, (digit_range b h).1)) in
     let fits : nat_lt (0 * 10 + digit_value b) (2 ^ 63) ≡ true =
     lt-ltb (0 * 10 + digit_value b) (2 ^ 63) (omega (arith, value, (digit_range b h).1)) in
     (pos (0 * 10 + digit_value b), step (digit_value b) low fits)
@@ -106,14 +109,15 @@ bad_literal_item b bs begins none = go (front_of b bs)
 
     go : Front b bs → item_of b bs ≡ BadLiteral
     go (blank e) = apart (sym begins ∙ blank_begins_none b bs e)
-    go (comment e f) = apart (sym begins ∙ ap (λ (x : ℕ). begins_literal (x ∷ bs)) (eqb-true b 35 f) ∙ hash_begins_none bs)
+    go (comment e f) =
+        apart (sym begins ∙ ap (λ (x : ℕ). begins_literal (x ∷ bs)) (eqb-true b 35 f) ∙ hash_begins_none bs)
     go (lexeme k n e a) = absurd (none k a.lexeme a.rest a.parts a.spelled a.longest)
     go (bad_char e x) = absurd (begun x (begins_some b bs begins))
     go (bad_literal e x) = e
 
 -- and where there is a bad literal, no token is
-pub bad_literal_none : (bs : List ℕ) → item bs ≡ BadLiteral → (k : Kind) (l others : List ℕ) → bs ≡ l ++ others → IsLexeme k l
-    → IsLongest l others → ⊥
+pub bad_literal_none : (bs : List ℕ) → item bs ≡ BadLiteral → (k : Kind) (l others : List ℕ)
+    → bs ≡ l ++ others → IsLexeme k l → IsLongest l others → ⊥
 bad_literal_none bs bad k l others e h longest = let both : BadLiteral ≡ Lexeme k (length l) = sym bad ∙ ap item e
     ∙ token_item k l others h longest in absurd cc
 

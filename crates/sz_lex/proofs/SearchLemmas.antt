@@ -16,20 +16,21 @@ no_test false h = refl
 
 pub first_passes : (test : ℕ → Bool) (hay : List ℕ) (r : Option ℕ) → IsFirstByte test hay r
     → unwrap_or r (length hay) ≡ prefix_len (λ (b : ℕ). not (test b)) hay
-first_passes test hay None h = sym (prefix_len_is (λ (b : ℕ). not (test b)) hay (length hay) 0 (omega arith) (λ k lt. no_test (test
+first_passes test hay None h =
+    sym (prefix_len_is (λ (b : ℕ). not (test b)) hay (length hay) 0 (omega arith) (λ k lt. no_test (test
     (get_or hay k 0)) (h k (omega arith) lt)) (λ lt. absurd (omega arith)))
 first_passes test hay (Some k) h =
     let within : k < length hay = h.0.high in
-    sym (prefix_len_is (λ (b : ℕ). not (test b)) hay k 0 (omega arith) (λ i lt. no_test (test (get_or hay i 0)) (h.0.before i
-    (omega arith) lt)) (λ _. ap not h.1))
+    sym (prefix_len_is (λ (b : ℕ). not (test b)) hay k 0 (omega arith)
+    (λ i lt. no_test (test (get_or hay i 0)) (h.0.before i (omega arith) lt)) (λ _. ap not h.1))
 
 -- where no quote closes it, there is no character
 pub none_closed : (text : List ℕ) → IsFirstByte (is_byte 39) text None → unescaped_at text ≡ None
 none_closed text h =
     let len = first_passes (is_byte 39) text None h in
     ap (λ (n : ℕ). quoted_character (plain_character (take n text)) n (drop n text)) (sym len)
-    ∙ ap (λ (t : List ℕ). quoted_character (plain_character (take (length text) text)) (length text) t) (drop_all (length text) text (omega arith))
-    ∙ open_end (plain_character (take (length text) text)) (length text)
+    ∙ ap (λ (t : List ℕ). quoted_character (plain_character (take (length text) text)) (length text) t)
+    (drop_all (length text) text (omega arith)) ∙ open_end (plain_character (take (length text) text)) (length text)
   where
     open_end : (o : Option ℕ) (n : ℕ) → quoted_character o n [] ≡ None
     open_end None n = refl

@@ -22,14 +22,20 @@ record LongestFront (text : List ℕ) (m : ℕ) : Type 0 where
 front_more : (text : List ℕ) (m : ℕ) → LongestFront text m → LongestFront text (suc m)
 front_more text m less = go (is_utf8 (take (suc m) text)) refl
   where
-    refuted : is_utf8 (take (suc m) text) ≡ false → (k : ℕ) → less.len < k → k ≤ suc m → IsUtf8 (take k text) → (m < k) ⊎ (k ≤ m) → ⊥
+    refuted : is_utf8 (take (suc m) text) ≡ false → (k : ℕ) → less.len < k → k ≤ suc m → IsUtf8 (take k text)
+        → (m < k) ⊎ (k ≤ m) → ⊥
     refuted short k above within u (inl top) =
         let same : k ≡ suc m = omega arith in
         true≢false (sym (is_utf8-from_IsUtf8 _ (subst (λ (n : ℕ). IsUtf8 (take n text)) same u)) ∙ short)
     refuted short k above within u (inr low) = less.longest k above low u
 
     go : (x : Bool) → is_utf8 (take (suc m) text) ≡ x → LongestFront text (suc m)
-    go true e = record { len = suc m; within = omega arith; front = IsUtf8-from_is_utf8 _ e; longest = λ k above within u. absurd (omega arith) }
+    go true e = record {
+      len = suc m;
+      within = omega arith;
+      front = IsUtf8-from_is_utf8 _ e;
+      longest = λ k above within u. absurd (omega arith);
+    }
     go false e = record {
       len = less.len;
       within = omega (arith, less.within);
@@ -38,7 +44,12 @@ front_more text m less = go (is_utf8 (take (suc m) text)) refl
     }
 
 longest_front : (text : List ℕ) (m : ℕ) → LongestFront text m
-longest_front text zero = record { len = 0; within = omega arith; front = IsUtf8-nil; longest = λ k above within u. absurd (omega arith) }
+longest_front text zero = record {
+  len = 0;
+  within = omega arith;
+  front = IsUtf8-nil;
+  longest = λ k above within u. absurd (omega arith);
+}
 longest_front text (suc m) = front_more text m (longest_front text m)
 
 -- a text is UTF-8, or the longest front that is has more after it
@@ -57,7 +68,11 @@ valid_cases text = go (longest_front text (length text))
         → IsUtf8 text ⊎ ((n : ℕ) × IsValidUpTo text n)
     sided f (inl short) = inr (
       f.len,
-      record { short = short; front = f.front; longest = λ m above u. refuted f short m above u (cases_lt (length text) m) },
+      record {
+        short = short;
+        front = f.front;
+        longest = λ m above u. refuted f short m above u (cases_lt (length text) m);
+      },
     )
     sided f (inr whole) = inl (subst IsUtf8 (take_all f.len text whole) f.front)
 
@@ -68,12 +83,15 @@ valid_cases text = go (longest_front text (length text))
 read_utf8 : (text : List ℕ) → IsUtf8 text → Outcome false 0 first_place text
     → ((ts : List Token) × HasTokens text ts) ⊎ ((e : LexError) × IsRefused text e)
 read_utf8 text utf8 (has_tokens ts h) = inl (ts, record { utf8 = utf8; tokens = h })
-read_utf8 text utf8 (has_bad_char q before h) = inr (errors.BadChar q, record { utf8 = utf8; before = before; tokens = h })
-read_utf8 text utf8 (has_bad_literal q before h) = inr (errors.BadLiteral q, record { utf8 = utf8; before = before; tokens = h })
+read_utf8 text utf8 (has_bad_char q before h) =
+    inr (errors.BadChar q, record { utf8 = utf8; before = before; tokens = h })
+read_utf8 text utf8 (has_bad_literal q before h) =
+    inr (errors.BadLiteral q, record { utf8 = utf8; before = before; tokens = h })
 
 pub every_text_is_read : EveryTextIsRead
 every_text_is_read text = go (valid_cases text)
   where
-    go : IsUtf8 text ⊎ ((n : ℕ) × IsValidUpTo text n) → ((ts : List Token) × HasTokens text ts) ⊎ ((e : LexError) × IsRefused text e)
+    go : IsUtf8 text ⊎ ((n : ℕ) × IsValidUpTo text n)
+        → ((ts : List Token) × HasTokens text ts) ⊎ ((e : LexError) × IsRefused text e)
     go (inl utf8) = read_utf8 text utf8 (outcome text)
     go (inr h) = inr (errors.NotUtf8 _, record { len = h.0; front = h.1; place = refl })

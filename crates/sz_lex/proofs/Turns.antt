@@ -17,26 +17,30 @@ use Rattle.sz_lex.specs.Reading.{item, act, bind, lexed, with_front}
 front_at : (text : List ℕ) (i : ℕ) → i < length text → drop i text ≡ get_or text i 0 ∷ drop (i + 1) text
 front_at text i lt = rw (add-one, drop-cons text i 0) refl
 
-pub passes : (text : List ℕ) (i k : ℕ) (p : Place) (front : List Token) (r : Result (List Token) LexError) → i < length text → 0 < k
-    → with_front front (lexed k i p (drop i text)) ≡ r → with_front front (lexed (k - 1) (i + 1) (after (get_or text i 0) p) (drop (i + 1) text)) ≡ r
+pub passes : (text : List ℕ) (i k : ℕ) (p : Place) (front : List Token) (r : Result (List Token) LexError)
+    → i < length text → 0 < k → with_front front (lexed k i p (drop i text)) ≡ r
+    → with_front front (lexed (k - 1) (i + 1) (after (get_or text i 0) p) (drop (i + 1) text)) ≡ r
 unfolding lexed
 passes text i zero p front r lt some so_far = absurd (omega arith)
 passes text i (suc k) p front r lt some so_far =
     let one : suc k - 1 ≡ k = omega arith in
-    let e : lexed (suc k) i p (drop i text) ≡ lexed k (i + 1) (after (get_or text i 0) p) (drop (i + 1) text) = rw (front_at text i lt) refl in
+    let e : lexed (suc k) i p (drop i text) ≡ lexed k (i + 1) (after (get_or text i 0) p) (drop (i + 1) text) =
+    rw (front_at text i lt) refl in
     rw one (ap (with_front front) (sym e) ∙ so_far)
 
 -- at the front of an item
 at_item : (text : List ℕ) (i : ℕ) (p : Place) → i < length text
-    → lexed 0 i p (drop i text) ≡ act i p (item (drop i text)) (λ k. lexed k (i + 1) (after (get_or text i 0) p) (drop (i + 1) text))
+    → lexed 0 i p (drop i text)
+    ≡ act i p (item (drop i text)) (λ k. lexed k (i + 1) (after (get_or text i 0) p) (drop (i + 1) text))
 unfolding lexed
 at_item text i p lt = rw (front_at text i lt) refl
 
-pub gap_passes : (text : List ℕ) (i n : ℕ) (p : Place) (front : List Token) (r : Result (List Token) LexError) → i < length text
-    → Gap n ≡ item (drop i text)
-    → with_front front (lexed 0 i p (drop i text)) ≡ r → with_front front (lexed (n - 1) (i + 1) (after (get_or text i 0) p) (drop (i + 1) text)) ≡ r
+pub gap_passes : (text : List ℕ) (i n : ℕ) (p : Place) (front : List Token) (r : Result (List Token) LexError)
+    → i < length text → Gap n ≡ item (drop i text) → with_front front (lexed 0 i p (drop i text)) ≡ r
+    → with_front front (lexed (n - 1) (i + 1) (after (get_or text i 0) p) (drop (i + 1) text)) ≡ r
 gap_passes text i n p front r lt is so_far =
-    ap (with_front front) (ap (λ (x : Item). act i p x (λ k. lexed k (i + 1) (after (get_or text i 0) p) (drop (i + 1) text))) is
+    ap (with_front front)
+    (ap (λ (x : Item). act i p x (λ k. lexed k (i + 1) (after (get_or text i 0) p) (drop (i + 1) text))) is
     ∙ sym (at_item text i p lt)) ∙ so_far
 
 add_token : (front : List Token) (t : Token) (read : Result (List Token) LexError)
@@ -45,8 +49,8 @@ unfolding with_front bind
 add_token front t (Ok ts) = ap (λ (us : List Token). Ok us) (simp append_assoc)
 add_token front t (Err e) = refl
 
-pub token_passes : (text : List ℕ) (i n : ℕ) (k : Kind) (p : Place) (front : List Token) (r : Result (List Token) LexError)
-    → i < length text → Lexeme k n ≡ item (drop i text)
+pub token_passes : (text : List ℕ) (i n : ℕ) (k : Kind) (p : Place) (front : List Token)
+    (r : Result (List Token) LexError) → i < length text → Lexeme k n ≡ item (drop i text)
     → with_front front (lexed 0 i p (drop i text)) ≡ r → with_front (front ++ record {
       kind = k;
       place = p;
@@ -55,27 +59,28 @@ pub token_passes : (text : List ℕ) (i n : ℕ) (k : Kind) (p : Place) (front :
           n;
     } ∷ []) (lexed (n - 1) (i + 1) (after (get_or text i 0) p) (drop (i + 1) text)) ≡ r
 token_passes text i n k p front r lt is so_far =
-    add_token front _ _ ∙ ap (with_front front) (ap (λ (x : Item). act i p x (λ k. lexed k (i + 1) (after (get_or text i 0) p) (drop
+    add_token front _ _
+    ∙ ap (with_front front) (ap (λ (x : Item). act i p x (λ k. lexed k (i + 1) (after (get_or text i 0) p) (drop
     (i + 1) text))) is ∙ sym (at_item text i p lt)) ∙ so_far
 
-pub char_fails : (text : List ℕ) (i : ℕ) (p : Place) (front : List Token) (r : Result (List Token) LexError) → i < length text
-    → BadChar ≡ item (drop i text)
+pub char_fails : (text : List ℕ) (i : ℕ) (p : Place) (front : List Token) (r : Result (List Token) LexError)
+    → i < length text → BadChar ≡ item (drop i text)
     → with_front front (lexed 0 i p (drop i text)) ≡ r → r ≡ Err (errors.BadChar p)
 unfolding with_front bind
 char_fails text i p front r lt is so_far =
     sym so_far ∙ ap (with_front front) (at_item text i p lt ∙ ap (λ (x : Item). act i p x (λ k. lexed k (i + 1) (after
     (get_or text i 0) p) (drop (i + 1) text))) (sym is))
 
-pub literal_fails : (text : List ℕ) (i : ℕ) (p : Place) (front : List Token) (r : Result (List Token) LexError) → i < length text
-    → BadLiteral ≡ item (drop i text)
+pub literal_fails : (text : List ℕ) (i : ℕ) (p : Place) (front : List Token) (r : Result (List Token) LexError)
+    → i < length text → BadLiteral ≡ item (drop i text)
     → with_front front (lexed 0 i p (drop i text)) ≡ r → r ≡ Err (errors.BadLiteral p)
 unfolding with_front bind
 literal_fails text i p front r lt is so_far =
     sym so_far ∙ ap (with_front front) (at_item text i p lt ∙ ap (λ (x : Item). act i p x (λ k. lexed k (i + 1) (after
     (get_or text i 0) p) (drop (i + 1) text))) (sym is))
 
-pub all_passed : (text : List ℕ) (i k : ℕ) (p : Place) (front : List Token) (r : Result (List Token) LexError) → length text ≤ i
-    → with_front front (lexed k i p (drop i text)) ≡ r → r ≡ Ok front
+pub all_passed : (text : List ℕ) (i k : ℕ) (p : Place) (front : List Token) (r : Result (List Token) LexError)
+    → length text ≤ i → with_front front (lexed k i p (drop i text)) ≡ r → r ≡ Ok front
 unfolding lexed with_front bind
 all_passed text i k p front r le so_far =
     let e : drop i text ≡ [] = drop_all i text le in

@@ -18,7 +18,8 @@ use Rattle.sz_lex.proofs.RefusalLemmas.{bad_char_item, bad_literal_item, bad_lit
 
 -- ---- a token is found
 
-head_item : (b : ℕ) (bs : List ℕ) (at : ℕ) (p : Place) → lexed 0 at p (b ∷ bs) ≡ act at p (item_of b bs) (λ k. lexed k (at + 1) (after b p) bs)
+head_item : (b : ℕ) (bs : List ℕ) (at : ℕ) (p : Place)
+    → lexed 0 at p (b ∷ bs) ≡ act at p (item_of b bs) (λ k. lexed k (at + 1) (after b p) bs)
 unfolding lexed
 head_item b bs at p = refl
 
@@ -35,8 +36,9 @@ token_found k (b ∷ l) rest at p h longest =
     let n : suc (length l) - 1 ≡ length l = omega arith in
     let m : at + 1 + length l ≡ at + suc (length l) = omega arith in
     head_item b (l ++ rest) at p
-    ∙ ap (λ (x : Item). act at p x (λ j. lexed j (at + 1) (after b p) (l ++ rest))) (token_item k (b ∷ l) rest h longest)
-    ∙ ap (λ x. bind (lexed x (at + 1) (after b p) (l ++ rest)) (λ ts. Ok (record { kind = k; place = p; start = at; len = suc (length l) } ∷ ts))) n
+    ∙ ap (λ (x : Item). act at p x (λ j. lexed j (at + 1) (after b p) (l ++ rest)))
+    (token_item k (b ∷ l) rest h longest) ∙ ap (λ x. bind (lexed x (at + 1) (after b p) (l ++ rest))
+    (λ ts. Ok (record { kind = k; place = p; start = at; len = suc (length l) } ∷ ts))) n
     ∙ ap (λ (x : Answer). bind x (λ ts. Ok (record {
       kind = k;
       place = p;
@@ -50,7 +52,8 @@ token_found k (b ∷ l) rest at p h longest =
 after_tokens : List Token → Answer → Answer
 after_tokens ts r = bind r (λ us. Ok (ts ++ us))
 
-bind_bind : (t : Token) (ts : List Token) (r : Answer) → bind (after_tokens ts r) (λ us. Ok (t ∷ us)) ≡ after_tokens (t ∷ ts) r
+bind_bind : (t : Token) (ts : List Token) (r : Answer)
+    → bind (after_tokens ts r) (λ us. Ok (t ∷ us)) ≡ after_tokens (t ∷ ts) r
 unfolding bind after_tokens
 bind_bind t ts (Ok us) = refl
 bind_bind t ts (Err e) = refl
@@ -60,7 +63,8 @@ unfolding bind after_tokens
 none_after (Ok us) = refl
 none_after (Err e) = refl
 
-complete : (P : Tail) (r : Answer) → ((c : Bool) (at : ℕ) (p : Place) (text : List ℕ) → P c at p text → lexed (left_of c text) at p text ≡ r)
+complete : (P : Tail) (r : Answer)
+    → ((c : Bool) (at : ℕ) (p : Place) (text : List ℕ) → P c at p text → lexed (left_of c text) at p text ≡ r)
     → (ts : List Token) (c : Bool) (at : ℕ) (p : Place) (text : List ℕ) → TokensThen P ts c at p text
     → lexed (left_of c text) at p text ≡ after_tokens ts r
 unfolding TokensThen
@@ -78,17 +82,22 @@ complete P r k (t ∷ ts) c at p text h =
       start = at + length n.gap;
       len =
           length n.lexeme;
-    } ∷ us))) (complete P r k ts false (at + length n.gap + length n.lexeme) (later n.lexeme (later n.gap p)) n.rest h.1)
+    } ∷ us)))
+    (complete P r k ts false (at + length n.gap + length n.lexeme) (later n.lexeme (later n.gap p)) n.rest h.1)
     ∙ bind_bind _ ts r
     ∙ ap (λ (x : Token). after_tokens (x ∷ ts) r) same
 
-nothing_left : (c : Bool) (at : ℕ) (p : Place) (text : List ℕ) → Nothing c at p text → lexed (left_of c text) at p text ≡ Ok []
-nothing_left c at p text h = ap (λ (x : List ℕ). lexed (left_of c x) at p x) (sym (append-nil text)) ∙ last_gap c h.0 text at p h.1
+nothing_left : (c : Bool) (at : ℕ) (p : Place) (text : List ℕ) → Nothing c at p text
+    → lexed (left_of c text) at p text ≡ Ok []
+nothing_left c at p text h = ap (λ (x : List ℕ). lexed (left_of c x) at p x) (sym (append-nil text))
+    ∙ last_gap c h.0 text at p h.1
 
-bad_turn : (b : ℕ) (bs : List ℕ) (at : ℕ) (p : Place) → item_of b bs ≡ BadChar → lexed 0 at p (b ∷ bs) ≡ Err (errors.BadChar p)
+bad_turn : (b : ℕ) (bs : List ℕ) (at : ℕ) (p : Place) → item_of b bs ≡ BadChar
+    → lexed 0 at p (b ∷ bs) ≡ Err (errors.BadChar p)
 bad_turn b bs at p e = head_item b bs at p ∙ ap (λ (x : Item). act at p x (λ k. lexed k (at + 1) (after b p) bs)) e
 
-literal_turn : (b : ℕ) (bs : List ℕ) (at : ℕ) (p : Place) → item_of b bs ≡ BadLiteral → lexed 0 at p (b ∷ bs) ≡ Err (errors.BadLiteral p)
+literal_turn : (b : ℕ) (bs : List ℕ) (at : ℕ) (p : Place) → item_of b bs ≡ BadLiteral
+    → lexed 0 at p (b ∷ bs) ≡ Err (errors.BadLiteral p)
 literal_turn b bs at p e = head_item b bs at p ∙ ap (λ (x : Item). act at p x (λ k. lexed k (at + 1) (after b p) bs)) e
 
 no_token : (q : Place) (c : Bool) (at : ℕ) (p : Place) (text : List ℕ) → BadCharAt q c at p text
@@ -96,7 +105,8 @@ no_token : (q : Place) (c : Bool) (at : ℕ) (p : Place) (text : List ℕ) → B
 no_token q c at p text h =
     ap (λ (x : List ℕ). lexed (left_of c x) at p x) h.parts
     ∙ gap_passed c h.gap (h.byte ∷ h.rest) at p h.closed
-    ∙ bad_turn h.byte h.rest _ _ (bad_char_item h.byte h.rest (record { blank = h.blank; hash = h.hash; none = h.none }))
+    ∙ bad_turn h.byte h.rest _ _
+    (bad_char_item h.byte h.rest (record { blank = h.blank; hash = h.hash; none = h.none }))
     ∙ ap (λ (x : Place). Err (errors.BadChar x)) (sym h.place)
 
 literal_here : (rest : List ℕ) (at : ℕ) (p : Place) → begins_literal rest ≡ true → ((k : Kind) (l others : List ℕ)
@@ -112,26 +122,29 @@ no_literal q c at p text h =
     ∙ literal_here h.rest _ _ h.begins h.none
     ∙ ap (λ (x : Place). Err (errors.BadLiteral x)) (sym h.place)
 
-pub tokens_given : (text : List ℕ) (ts : List Token) → TokensThen Nothing ts false 0 first_place text → lexed 0 0 first_place text ≡ Ok ts
+pub tokens_given : (text : List ℕ) (ts : List Token) → TokensThen Nothing ts false 0 first_place text
+    → lexed 0 0 first_place text ≡ Ok ts
 unfolding after_tokens bind
-tokens_given text ts h = complete Nothing (Ok []) nothing_left ts false 0 first_place text h ∙ ap (λ (x : List Token). Ok x) (append-nil ts)
+tokens_given text ts h = complete Nothing (Ok []) nothing_left ts false 0 first_place text h
+    ∙ ap (λ (x : List Token). Ok x) (append-nil ts)
 
 pub char_given : (text : List ℕ) (q : Place) (ts : List Token) → TokensThen (BadCharAt q) ts false 0 first_place text
     → lexed 0 0 first_place text ≡ Err (errors.BadChar q)
 unfolding after_tokens bind
 char_given text q ts h = complete (BadCharAt q) (Err (errors.BadChar q)) (no_token q) ts false 0 first_place text h
 
-pub literal_given : (text : List ℕ) (q : Place) (ts : List Token) → TokensThen (BadLiteralAt q) ts false 0 first_place text
-    → lexed 0 0 first_place text ≡ Err (errors.BadLiteral q)
+pub literal_given : (text : List ℕ) (q : Place) (ts : List Token)
+    → TokensThen (BadLiteralAt q) ts false 0 first_place text → lexed 0 0 first_place text ≡ Err (errors.BadLiteral q)
 unfolding after_tokens bind
-literal_given text q ts h = complete (BadLiteralAt q) (Err (errors.BadLiteral q)) (no_literal q) ts false 0 first_place text h
+literal_given text q ts h =
+    complete (BadLiteralAt q) (Err (errors.BadLiteral q)) (no_literal q) ts false 0 first_place text h
 
 -- ---- every text has tokens or a refusal
 
 -- a tail that may begin a byte earlier, if that belongs to the gap
 abbrev IsGrowing : Tail → Type 0
-IsGrowing P = (c d : Bool) (b : ℕ) (at : ℕ) (p : Place) (bs : List ℕ) → ((g : List ℕ) → gap_from c (b ∷ g) ≡ gap_from d g)
-    → P d (at + 1) (after b p) bs → P c at p (b ∷ bs)
+IsGrowing P = (c d : Bool) (b : ℕ) (at : ℕ) (p : Place) (bs : List ℕ)
+    → ((g : List ℕ) → gap_from c (b ∷ g) ≡ gap_from d g) → P d (at + 1) (after b p) bs → P c at p (b ∷ bs)
 
 nothing_grows : IsGrowing Nothing
 nothing_grows c d b at p bs step h = (h.0, step bs ∙ h.1)
@@ -180,17 +193,29 @@ tokens_grow P grows (t ∷ ts) c d b at p bs step h =
         spelled = n.spelled;
         longest = n.longest;
       },
-      subst (λ (m : ℕ). TokensThen P ts false (m + length n.lexeme) (later n.lexeme (later n.gap (after b p))) n.rest) m h.1,
+      subst (λ (m : ℕ). TokensThen P ts false (m + length n.lexeme) (later n.lexeme (later n.gap (after b p))) n.rest)
+          m h.1,
     )
 
 -- a token at the front
-token_front : (P : Tail) (k : Kind) (l rest : List ℕ) (ts : List Token) (at : ℕ) (p : Place) → IsLexeme k l → IsLongest l rest
-    → TokensThen P ts false (at + length l) (later l p) rest
+token_front : (P : Tail) (k : Kind) (l rest : List ℕ) (ts : List Token) (at : ℕ) (p : Place) → IsLexeme k l
+    → IsLongest l rest → TokensThen P ts false (at + length l) (later l p) rest
     → TokensThen P (record { kind = k; place = p; start = at; len = length l } ∷ ts) false at p (l ++ rest)
 unfolding TokensThen
 token_front P k l rest ts at p h longest others =
     let n : at ≡ at + 0 = omega arith in (
-      record { gap = []; lexeme = l; rest = rest; parts = refl; closed = refl; start = n; place = refl; len = refl; spelled = h; longest = longest },
+      record {
+        gap = [];
+        lexeme = l;
+        rest = rest;
+        parts = refl;
+        closed = refl;
+        start = n;
+        place = refl;
+        len = refl;
+        spelled = h;
+        longest = longest;
+      },
       subst (λ (m : ℕ). TokensThen P ts false (m + length l) (later l p) rest) n others,
     )
 
@@ -203,23 +228,30 @@ pub data Outcome (c : Bool) (at : ℕ) (p : Place) (text : List ℕ) : Type 0 wh
 grown : (c d : Bool) (b : ℕ) (at : ℕ) (p : Place) (bs : List ℕ) → ((g : List ℕ) → gap_from c (b ∷ g) ≡ gap_from d g)
     → Outcome d (at + 1) (after b p) bs → Outcome c at p (b ∷ bs)
 grown c d b at p bs step (has_tokens ts h) = has_tokens ts (tokens_grow Nothing nothing_grows ts c d b at p bs step h)
-grown c d b at p bs step (has_bad_char q ts h) = has_bad_char q ts (tokens_grow (BadCharAt q) (char_grows q) ts c d b at p bs step h)
-grown c d b at p bs step (has_bad_literal q ts h) = has_bad_literal q ts (tokens_grow (BadLiteralAt q) (literal_grows q) ts c d b at p bs step h)
+grown c d b at p bs step (has_bad_char q ts h) =
+    has_bad_char q ts (tokens_grow (BadCharAt q) (char_grows q) ts c d b at p bs step h)
+grown c d b at p bs step (has_bad_literal q ts h) =
+    has_bad_literal q ts (tokens_grow (BadLiteralAt q) (literal_grows q) ts c d b at p bs step h)
 
 with_token : (k : Kind) (l rest : List ℕ) (at : ℕ) (p : Place) → IsLexeme k l → IsLongest l rest
     → Outcome false (at + length l) (later l p) rest → Outcome false at p (l ++ rest)
-with_token k l rest at p h longest (has_tokens ts o) = has_tokens (_ ∷ ts) (token_front Nothing k l rest ts at p h longest o)
-with_token k l rest at p h longest (has_bad_char q ts o) = has_bad_char q (_ ∷ ts) (token_front (BadCharAt q) k l rest ts at p h longest o)
-with_token k l rest at p h longest (has_bad_literal q ts o) = has_bad_literal q (_ ∷ ts) (token_front (BadLiteralAt q) k l rest ts at p h longest o)
+with_token k l rest at p h longest (has_tokens ts o) =
+    has_tokens (_ ∷ ts) (token_front Nothing k l rest ts at p h longest o)
+with_token k l rest at p h longest (has_bad_char q ts o) =
+    has_bad_char q (_ ∷ ts) (token_front (BadCharAt q) k l rest ts at p h longest o)
+with_token k l rest at p h longest (has_bad_literal q ts o) =
+    has_bad_literal q (_ ∷ ts) (token_front (BadLiteralAt q) k l rest ts at p h longest o)
 
 abbrev Again : ℕ → Type 0
 Again n = (c : Bool) (at : ℕ) (p : Place) (text : List ℕ) → length text ≤ n → Outcome c at p text
 
-rest_shorter : (k : Kind) (b : ℕ) (bs l rest : List ℕ) (n : ℕ) → IsLexeme k l → b ∷ bs ≡ l ++ rest → length bs ≤ n → length rest ≤ n
+rest_shorter : (k : Kind) (b : ℕ) (bs l rest : List ℕ) (n : ℕ) → IsLexeme k l → b ∷ bs ≡ l ++ rest → length bs ≤ n
+    → length rest ≤ n
 rest_shorter k b bs [] rest n h e le = absurd (no_empty k h)
 rest_shorter k b bs (c ∷ l) rest n h e le = omega (arith, ap length e, length-append l rest)
 
-decide_here : (n : ℕ) → Again n → (b : ℕ) (bs : List ℕ) (at : ℕ) (p : Place) → length bs ≤ n → Outcome false at p (b ∷ bs)
+decide_here : (n : ℕ) → Again n → (b : ℕ) (bs : List ℕ) (at : ℕ) (p : Place) → length bs ≤ n
+    → Outcome false at p (b ∷ bs)
 unfolding TokensThen
 decide_here n again b bs at p le = go (front_of b bs)
   where
@@ -257,7 +289,8 @@ decide_here n again b bs at p le = go (front_of b bs)
       none = bad_literal_none (b ∷ bs) e;
     })
 
-comment_here : (n : ℕ) → Again n → (b : ℕ) (bs : List ℕ) (at : ℕ) (p : Place) → length bs ≤ n → Outcome true at p (b ∷ bs)
+comment_here : (n : ℕ) → Again n → (b : ℕ) (bs : List ℕ) (at : ℕ) (p : Place) → length bs ≤ n
+    → Outcome true at p (b ∷ bs)
 comment_here n again b bs at p le = go (eqb b 10) refl
   where
     go : (x : Bool) → eqb b 10 ≡ x → Outcome true at p (b ∷ bs)
@@ -279,14 +312,16 @@ outcome text = decide (length text) false 0 first_place text (omega arith)
 
 -- ---- what reading gives is what the text has
 
-pub given_tokens : (text : List ℕ) (ts : List Token) → lexed 0 0 first_place text ≡ Ok ts → TokensThen Nothing ts false 0 first_place text
+pub given_tokens : (text : List ℕ) (ts : List Token) → lexed 0 0 first_place text ≡ Ok ts
+    → TokensThen Nothing ts false 0 first_place text
 given_tokens text ts h = go (outcome text)
   where
     same : {us : List Token} → Ok us ≡ lexed 0 0 first_place text → us ≡ ts
     same e = let both = e ∙ h in cc
 
     go : Outcome false 0 first_place text → TokensThen Nothing ts false 0 first_place text
-    go (has_tokens us o) = subst (λ (ts : List Token). TokensThen Nothing ts false 0 first_place text) (same (sym (tokens_given text us o))) o
+    go (has_tokens us o) = subst (λ (ts : List Token). TokensThen Nothing ts false 0 first_place text)
+        (same (sym (tokens_given text us o))) o
     go (has_bad_char q us o) = let both = sym (char_given text q us o) ∙ h in absurd cc
     go (has_bad_literal q us o) = let both = sym (literal_given text q us o) ∙ h in absurd cc
 
@@ -295,7 +330,8 @@ pub record Refused (P : Place → Tail) (text : List ℕ) (q : Place) : Type 0 w
   pub before : List Token
   pub tokens : TokensThen (P q) before false 0 first_place text
 
-pub given_char : (text : List ℕ) (q : Place) → lexed 0 0 first_place text ≡ Err (errors.BadChar q) → Refused BadCharAt text q
+pub given_char : (text : List ℕ) (q : Place) → lexed 0 0 first_place text ≡ Err (errors.BadChar q)
+    → Refused BadCharAt text q
 given_char text q h = go (outcome text)
   where
     same : {r : Place} → Err (errors.BadChar r) ≡ lexed 0 0 first_place text → r ≡ q
@@ -303,10 +339,12 @@ given_char text q h = go (outcome text)
 
     go : Outcome false 0 first_place text → Refused BadCharAt text q
     go (has_tokens us o) = let both = sym (tokens_given text us o) ∙ h in absurd cc
-    go (has_bad_char r us o) = subst (Refused BadCharAt text) (same (sym (char_given text r us o))) (record { before = us; tokens = o })
+    go (has_bad_char r us o) =
+        subst (Refused BadCharAt text) (same (sym (char_given text r us o))) (record { before = us; tokens = o })
     go (has_bad_literal r us o) = let both = sym (literal_given text r us o) ∙ h in absurd cc
 
-pub given_literal : (text : List ℕ) (q : Place) → lexed 0 0 first_place text ≡ Err (errors.BadLiteral q) → Refused BadLiteralAt text q
+pub given_literal : (text : List ℕ) (q : Place) → lexed 0 0 first_place text ≡ Err (errors.BadLiteral q)
+    → Refused BadLiteralAt text q
 given_literal text q h = go (outcome text)
   where
     same : {r : Place} → Err (errors.BadLiteral r) ≡ lexed 0 0 first_place text → r ≡ q
@@ -315,4 +353,5 @@ given_literal text q h = go (outcome text)
     go : Outcome false 0 first_place text → Refused BadLiteralAt text q
     go (has_tokens us o) = let both = sym (tokens_given text us o) ∙ h in absurd cc
     go (has_bad_char r us o) = let both = sym (char_given text r us o) ∙ h in absurd cc
-    go (has_bad_literal r us o) = subst (Refused BadLiteralAt text) (same (sym (literal_given text r us o))) (record { before = us; tokens = o })
+    go (has_bad_literal r us o) = subst (Refused BadLiteralAt text) (same (sym (literal_given text r us o)))
+        (record { before = us; tokens = o })

@@ -74,7 +74,8 @@ pub prefix_all : (l rest : List ℕ) → all_word l ≡ true → Stops rest → 
 unfolding Stops
 prefix_all [] [] h s = refl
 prefix_all [] (c ∷ rest) h s = rw s refl
-prefix_all (b ∷ l) rest h s = let p = and_parts (is_word b) (all_word l) h in rw p.0 (omega (arith, prefix_all l rest p.1 s))
+prefix_all (b ∷ l) rest h s = let p = and_parts (is_word b) (all_word l) h in
+    rw p.0 (omega (arith, prefix_all l rest p.1 s))
 
 -- a run at the front, and what stops it
 pub record RunAt (bs : List ℕ) (n : ℕ) : Type 0 where
@@ -107,7 +108,8 @@ all_word_push [] c h e = rw e refl
 all_word_push (b ∷ l) c h e = let p = and_parts (is_word b) (all_word l) h in rw p.0 (all_word_push l c p.1 e)
 
 -- what stops a run is not in a longer one
-pub all_word_end : (l extra others rest : List ℕ) → Stops rest → rest ≡ extra ++ others → all_word (l ++ extra) ≡ true → extra ≡ []
+pub all_word_end : (l extra others rest : List ℕ) → Stops rest → rest ≡ extra ++ others
+    → all_word (l ++ extra) ≡ true → extra ≡ []
 unfolding Stops
 all_word_end l [] others rest s e h = refl
 all_word_end [] (c ∷ extra) others [] s e h = nil_cons e
@@ -132,10 +134,12 @@ name_is [] h = absurd cc
 name_is (b ∷ bs) h = and_parts (is_letter b) (all_word bs) h
 
 pub word_is_name : (w : Word) → IsName (word_text w)
-word_is_name w = name_is (word_text w) (elim w as (λ (w : Word). is_name (word_text w) ≡ true) [ words.All ↦ refl | _ ↦ refl ])
+word_is_name w =
+    name_is (word_text w) (elim w as (λ (w : Word). is_name (word_text w) ≡ true) [ words.All ↦ refl | _ ↦ refl ])
 
 -- what is found is spelled so
-found_spells : (ws : List Word) (text : List ℕ) (w : Word) → find (λ (w : Word). bytes_eq (word_text w) text) ws ≡ Some w
+found_spells : (ws : List Word) (text : List ℕ) (w : Word)
+    → find (λ (w : Word). bytes_eq (word_text w) text) ws ≡ Some w
     → bytes_eq (word_text w) text ≡ true
 found_spells [] text w h = none_some h
 found_spells (v ∷ ws) text w h = go (bytes_eq (word_text v) text) refl (found_spells ws text w)
@@ -150,11 +154,13 @@ word_spells text w e = (bytes_eq-Decides (word_text w) text).0 (found_spells all
 
 -- the word at i, or a later one
 pub found_word : (ws : List Word) (i : ℕ) (d : Word) (text : List ℕ) → i < length ws
-    → bytes_eq (word_text (get_or ws i d)) text ≡ true → find (λ (w : Word). bytes_eq (word_text w) text) (drop i ws) ≡ Some (get_or ws i d)
+    → bytes_eq (word_text (get_or ws i d)) text ≡ true
+    → find (λ (w : Word). bytes_eq (word_text w) text) (drop i ws) ≡ Some (get_or ws i d)
 found_word ws i d text lt e = at_drop_more (find (λ (w : Word). bytes_eq (word_text w) text)) ws i d lt ∙ rw e refl
 
 pub passed_word : (ws : List Word) (i : ℕ) (d : Word) (text : List ℕ) → i < length ws
-    → bytes_eq (word_text (get_or ws i d)) text ≡ false → find (λ (w : Word). bytes_eq (word_text w) text) (drop i ws) ≡ find (λ
+    → bytes_eq (word_text (get_or ws i d)) text ≡ false
+    → find (λ (w : Word). bytes_eq (word_text w) text) (drop i ws) ≡ find (λ
     (w : Word). bytes_eq (word_text w) text) (drop (i + 1) ws)
 passed_word ws i d text lt e = at_drop_more (find (λ (w : Word). bytes_eq (word_text w) text)) ws i d lt ∙ rw e refl
 

@@ -20,8 +20,10 @@ IsGap bytes = (comment : _) × (gap_from false bytes ≡ Some comment)
 -- before, between and after them, and each has its place and spells its kind
 abbrev pub LieInOrder : List ℕ → ℕ → List Token → Type 0
 LieInOrder text at [] = IsGap (drop at text)
-LieInOrder text at (t ∷ ts) = (at ≤ t.start) × (t.start + t.len ≤ length text) × IsGap (take (t.start - at) (drop at text))
-    × (t.place ≡ later (take t.start text) first_place) × IsLexeme t.kind (lexeme_of text t) × LieInOrder text (t.start + t.len) ts
+LieInOrder text at (t ∷ ts) =
+    (at ≤ t.start) × (t.start + t.len ≤ length text) × IsGap (take (t.start - at) (drop at text))
+    × (t.place ≡ later (take t.start text) first_place) × IsLexeme t.kind (lexeme_of text t)
+    × LieInOrder text (t.start + t.len) ts
 
 -- the spans of a text's tokens lie one after another
 abbrev pub SpansLieInOrder : Type 0
@@ -71,7 +73,8 @@ BeginsApart (b ∷ bs) = (is_blank b || b == 35) ≡ true
 -- the text is the bytes of these tokens, with blanks and comments before and after them, and some between any two
 abbrev pub IsWrittenApart : List Spelled → List ℕ → Type 0
 IsWrittenApart [] text = IsGap text
-IsWrittenApart (s ∷ ss) text = (gap rest : List ℕ) × (text ≡ gap ++ (s.text ++ rest)) × (gap_from false gap ≡ Some false)
+IsWrittenApart (s ∷ ss) text =
+    (gap rest : List ℕ) × (text ≡ gap ++ (s.text ++ rest)) × (gap_from false gap ≡ Some false)
     × IsLexeme s.kind s.text × BeginsApart rest × IsWrittenApart ss rest
 
 -- a token's kind and its bytes in a text

@@ -22,11 +22,13 @@ letter_escape b =
 abbrev pub character_escape : ℕ → Option Escape
 character_escape code = if nat_le 0xD800 code && nat_le code 0xDFFF then None else Some (escapes.Char code)
 
--- what an escape stands for, written without its backslash: a letter; x and two hexadecimal digits, a byte; u and four, a character
+-- what an escape stands for, written without its backslash: a letter; x and two hexadecimal digits, a byte; u and
+-- four, a character
 abbrev pub escape_of : List ℕ → Option Escape
 escape_of (k ∷ []) = letter_escape k
 escape_of (k ∷ a ∷ b ∷ []) = if k == 120 then option_map escapes.Byte (digits_from 16 0 (a ∷ b ∷ [])) else None
-escape_of (k ∷ a ∷ b ∷ c ∷ d ∷ []) = if k == 117 then option_and_then character_escape (digits_from 16 0 (a ∷ b ∷ c ∷ d ∷ [])) else None
+escape_of (k ∷ a ∷ b ∷ c ∷ d ∷ []) =
+    if k == 117 then option_and_then character_escape (digits_from 16 0 (a ∷ b ∷ c ∷ d ∷ [])) else None
 escape_of _ = None
 
 -- the code that an escape gives in a character literal, where \x is at most 7f
@@ -40,7 +42,8 @@ escape_bytes quoteds.Str (escapes.Byte b) = if nat_lt b 128 then Some (b ∷ [])
 escape_bytes quoteds.Bytes (escapes.Byte b) = Some (b ∷ [])
 escape_bytes q (escapes.Char c) = Some (encode_utf8 c)
 
--- a part of a string or bytes literal: a byte of a character that stands for itself, or an escape, without its backslash
+-- a part of a string or bytes literal: a byte of a character that stands for itself, or an escape, without its
+-- backslash
 pub data Part : Type 0 where
   plain : ℕ → Part
   escape : List ℕ → Part
@@ -78,6 +81,7 @@ pub record IsQuoted (q : Quoted) (literal value : List ℕ) : Type 0 where
 
 -- the literal is ', one character other than ', \ and a newline, or one escape, and '
 pub data IsCharacter (literal : List ℕ) (c : ℕ) : Type 0 where
-  plain : IsScalar c → (c == 39 || c == 92 || c == 10) ≡ false → literal ≡ 39 ∷ (encode_utf8 c ++ (39 ∷ [])) → IsCharacter literal c
-  escaped : (text : List ℕ) → option_and_then escape_code (escape_of text) ≡ Some c → literal ≡ 39 ∷ (92 ∷ (text ++ (39 ∷ [])))
+  plain : IsScalar c → (c == 39 || c == 92 || c == 10) ≡ false → literal ≡ 39 ∷ (encode_utf8 c ++ (39 ∷ []))
       → IsCharacter literal c
+  escaped : (text : List ℕ) → option_and_then escape_code (escape_of text) ≡ Some c
+      → literal ≡ 39 ∷ (92 ∷ (text ++ (39 ∷ []))) → IsCharacter literal c

@@ -7,7 +7,8 @@ use Rattle.std.specs.Option.{option_map}
 -- the number that n becomes when these digits to this base are written after it, if each is such a digit
 abbrev pub digits_from : ℕ → ℕ → List ℕ → Option ℕ
 digits_from base n [] = Some n
-digits_from base n (b ∷ bs) = if nat_lt (digit_value b) base then digits_from base (n * base + digit_value b) bs else None
+digits_from base n (b ∷ bs) =
+    if nat_lt (digit_value b) base then digits_from base (n * base + digit_value b) bs else None
 
 -- the number, if there is one and it is below the limit
 abbrev pub below : ℕ → Option ℕ → Option ℕ

@@ -73,8 +73,8 @@ body_at q k [] = None
 body_at q (suc k) (b ∷ bs) = longer [] (body_at q k bs)
 body_at q zero (b ∷ bs) =
     if b == 34 then Some (record { len = 1; value = [] })
-    else (if b == 92 then option_and_then (λ v. longer v (body_at q (escape_size (first bs)) bs)) (option_and_then (escape_bytes q) (escape_at bs))
-    else (if b == 10 then None
+    else (if b == 92 then option_and_then (λ v. longer v (body_at q (escape_size (first bs)) bs))
+    (option_and_then (escape_bytes q) (escape_at bs)) else (if b == 10 then None
     else longer (b ∷ []) (body_at q zero bs)))
 
 -- the character, if it needs no escape
@@ -98,9 +98,11 @@ abbrev pub quoted_character : Option ℕ → ℕ → List ℕ → Option (ℕ ×
 quoted_character None n rest = None
 quoted_character (Some c) n rest = if first rest == 39 then Some (c, n + 1) else None
 
--- an escaped character after its backslash, and the number of bytes from there on with the backslash and the closing quote
+-- an escaped character after its backslash, and the number of bytes from there on with the backslash and the closing
+-- quote
 abbrev pub escaped_at : List ℕ → Option (ℕ × ℕ)
-escaped_at bs = quoted_character (option_and_then escape_code (escape_at bs)) (1 + escape_size (first bs)) (drop (escape_size (first bs)) bs)
+escaped_at bs = quoted_character (option_and_then escape_code (escape_at bs)) (1 + escape_size (first bs))
+    (drop (escape_size (first bs)) bs)
 
 -- a character that needs no escape, and the number of bytes with the closing quote
 abbrev pub unescaped_at : List ℕ → Option (ℕ × ℕ)
@@ -147,7 +149,8 @@ sign_item (Some s) = Lexeme (kinds.Sign s.0) s.1
 -- the literal that begins with this byte
 abbrev pub literal_item : ℕ → List ℕ → Item
 literal_item b bs =
-    if is_digit b then number_item (number_of (take (prefix_len is_word (b ∷ bs)) (b ∷ bs))) (prefix_len is_word (b ∷ bs))
+    if is_digit b
+    then number_item (number_of (take (prefix_len is_word (b ∷ bs)) (b ∷ bs))) (prefix_len is_word (b ∷ bs))
     else (if b == 39 then character_item (character_at bs)
     else (if b == 34 then quoted_item quoteds.Str (body_at quoteds.Str 0 bs)
     else quoted_item quoteds.Bytes (body_at quoteds.Bytes 0 (drop 1 bs))))
@@ -168,7 +171,8 @@ item_of b bs =
     if is_blank b then Gap 1
     else (if b == 35 then Gap (prefix_len not_newline bs + 1)
     else (if begins_literal (b ∷ bs) then literal_item b bs
-    else (if is_letter b then Lexeme (word_kind (take (prefix_len is_word (b ∷ bs)) (b ∷ bs))) (prefix_len is_word (b ∷ bs))
+    else (if is_letter b
+    then Lexeme (word_kind (take (prefix_len is_word (b ∷ bs)) (b ∷ bs))) (prefix_len is_word (b ∷ bs))
     else sign_item (sign_at b (first bs)))))
 
 abbrev pub item : List ℕ → Item

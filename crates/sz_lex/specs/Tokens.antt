@@ -61,7 +61,8 @@ gap_from true (b ∷ bs) = if b == 10 then gap_from false bs else gap_from true 
 
 -- the place after a byte
 abbrev pub after : ℕ → Place → Place
-after b p = if b == 10 then record { line = p.line + 1; column = 1 } else record { line = p.line; column = p.column + 1 }
+after b p =
+    if b == 10 then record { line = p.line + 1; column = 1 } else record { line = p.line; column = p.column + 1 }
 
 -- the place after bytes
 abbrev pub later : List ℕ → Place → Place

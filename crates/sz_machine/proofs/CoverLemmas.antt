@@ -9,8 +9,8 @@ use Rattle.sz_instr.specs.declared.step.Step.{Step}
 use Rattle.sz_world_rules.specs.Slots.{Slot}
 use Rattle.sz_types.specs.declared.operator.Builtin.{Builtin}
 use Rattle.sz_types.specs.declared.operator.BinOp.{BinOp}
-use Rattle.sz_machine.specs.Acting.{IsInside, IsApart}
-use Rattle.sz_machine_rules.specs.Covering.{HasList}
+use Rattle.sz_machine.specs.AtLines.{IsInside, IsApart}
+use Rattle.sz_instr.specs.Covering.{HasList}
 
 -- there is a candidate list
 pub list_there : (lists : List (List Datum)) → HasList lists → 0 < length lists
@@ -24,7 +24,8 @@ found_within (y ∷ xs) zero x e = omega arith
 found_within (y ∷ xs) (suc n) x e = let rest = found_within xs n x e in omega (arith, rest)
 
 -- what has to do with neither statics nor the record is inside
-pub is_inside : (i : Instr) → ((n : ℕ) → i ≡ Static n → ⊥) → (i ≡ Input → ⊥) → ((n : ℕ) → i ≡ KeepStatic n → ⊥) → IsInside i
+pub is_inside : (i : Instr) → ((n : ℕ) → i ≡ Static n → ⊥) → (i ≡ Input → ⊥)
+    → ((n : ℕ) → i ≡ KeepStatic n → ⊥) → IsInside i
 is_inside (Push x) a b k = tt
 is_inside (Local x) a b k = tt
 is_inside (Static x) a b k = a x refl
@@ -62,7 +63,8 @@ is_inside (Meets x) a b k = tt
 is_inside (Fails x) a b k = tt
 
 -- from an item that is found on there are it and the others
-pub drop_found : {X : Type 0} → (xs : List X) (n : ℕ) (x : X) → slice_get xs n ≡ Some x → drop n xs ≡ x ∷ drop (suc n) xs
+pub drop_found : {X : Type 0} → (xs : List X) (n : ℕ) (x : X) → slice_get xs n ≡ Some x
+    → drop n xs ≡ x ∷ drop (suc n) xs
 drop_found [] n x e = absurd (cc)
 drop_found (y ∷ xs) zero x e = ap (λ o. unwrap_or o x ∷ xs) e
 drop_found (y ∷ xs) (suc n) x e = drop_found xs n x e

@@ -1,9 +1,5 @@
-pub mod PayLemmas
-pub mod EmitLemmas
-pub mod FlowLemmas
 pub mod QuickLemmas
 pub mod CoverLemmas
 pub mod StepLemmas
 pub mod LineLemmas
 pub mod RunLemmas
-pub mod StoreLemmas

@@ -5,7 +5,7 @@ use Rattle.sz_instr.specs.declared.code.Code.{Code}
 use Rattle.sz_world_rules.specs.World.{Outcome, Done, Faulted}
 use Rattle.sz_world_rules.specs.World as world
 use Rattle.sz_world_rules.specs.Slots.{Slot}
-use Rattle.sz_machine_rules.specs.Runs.{RunsTo, StaticsRunTo}
+use Rattle.sz_instr.specs.Runs.{RunsTo, StaticsRunTo}
 use Rattle.sz_machine.specs.declared.ends.Fault.{Fault}
 use Rattle.sz_machine.specs.declared.ends.RunEnd.{RunEnd}
 use Rattle.sz_machine.specs.declared.ends.RunEnd.TheVariants as record_ends

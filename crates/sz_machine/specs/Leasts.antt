@@ -28,7 +28,8 @@ one_least test n m a b = by (cases_lt n m) (cases_lt m n)
 -- there is one such number
 pub least_prop : (test : ℕ → Bool) → IsProp (Least test)
 least_prop test u v =
-    Σ_prop_path (λ n. ×_prop (Coded-set coded_bool (test n) true) (Π_prop (λ k. →_prop (Coded-set coded_bool (test k) false))))
+    Σ_prop_path
+    (λ n. ×_prop (Coded-set coded_bool (test n) true) (Π_prop (λ k. →_prop (Coded-set coded_bool (test k) false))))
     (one_least test u.0 v.0 u.1 v.1)
 
 -- where one passes there is a least one

@@ -5,8 +5,8 @@ use Rattle.sz_instr.specs.declared.line.Line.{Line}
 use Rattle.sz_instr.specs.declared.routine.Routine.{Routine}
 use Rattle.sz_world_rules.specs.World.{World, new_world, Outcome}
 use Rattle.sz_world_rules.specs.Slots.{Slot, undefined_slots}
-use Rattle.sz_machine_rules.specs.States.{State, After, Goes, Halts, Stuck, entered}
-use Rattle.sz_machine_rules.specs.Runs.{does, record_start, StaticsRunTo, RoutinesRunTo}
+use Rattle.sz_instr.specs.States.{State, After, Goes, Halts, Stuck, entered}
+use Rattle.sz_instr.specs.Runs.{does, record_start, StaticsRunTo, RoutinesRunTo}
 use Rattle.sz_machine.specs.Leasts.{Least, least_prop}
 use Rattle.sz_machine.specs.CodeRuns.{IsOnTheWay}
 
@@ -50,14 +50,17 @@ is_over_and _ next = true
 abbrev pub routines_end_within : Code → ℕ → List Routine → World → List Slot → Bool
 routines_end_within code n [] w statics = true
 routines_end_within code n (routine ∷ rest) w statics =
-    is_over_and (after_lines code n (Goes (entered routine statics None w))) (λ next slots. routines_end_within code n rest next slots)
+    is_over_and (after_lines code n (Goes (entered routine statics None w)))
+    (λ next slots. routines_end_within code n rest next slots)
 
 -- the least number of lines after which the run for a record is at its end
 abbrev pub RecordLines : Code → List ℕ → List Slot → ℕ → Type 0
 RecordLines code input statics budget = Least (λ n. ends_within code n (Goes (record_start code input statics budget)))
 
-pub record_lines_prop : (code : Code) (input : List ℕ) (statics : List Slot) (budget : ℕ) → IsProp (RecordLines code input statics budget)
-record_lines_prop code input statics budget = least_prop (λ n. ends_within code n (Goes (record_start code input statics budget)))
+pub record_lines_prop : (code : Code) (input : List ℕ) (statics : List Slot) (budget : ℕ)
+    → IsProp (RecordLines code input statics budget)
+record_lines_prop code input statics budget =
+    least_prop (λ n. ends_within code n (Goes (record_start code input statics budget)))
 
 -- the least number of lines after which each run of a static is at its end
 abbrev pub StaticsLines : Code → ℕ → Type 0
@@ -73,7 +76,9 @@ pub record IsOnTheWayWithin (code : Code) (n : ℕ) (start s : State) : Type 0 w
   pub way : IsOnTheWay code start s
   pub within : ends_within code n (Goes s) ≡ true
 
--- however the run of all statics ends, the run of these routines does, and each of them is at its end after at most so many lines
-pub record AreOnTheWayWithin (code : Code) (budget n : ℕ) (routines : List Routine) (w : World) (statics : List Slot) : Type 0 where
+-- however the run of all statics ends, the run of these routines does, and each of them is at its
+-- end after at most so many lines
+pub record AreOnTheWayWithin (code : Code) (budget n : ℕ) (routines : List Routine) (w : World)
+    (statics : List Slot) : Type 0 where
   pub way : (o : Outcome (List Slot)) → StaticsRunTo code budget o → RoutinesRunTo code routines w statics o
   pub within : routines_end_within code n routines w statics ≡ true

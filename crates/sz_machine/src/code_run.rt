@@ -5,20 +5,22 @@ ghost use Rattle.sz_tabs.specs.Data.{EmitDatum};
 ghost use Rattle.sz_world_rules.specs.World.{Outcome, new_world};
 ghost use Rattle.sz_world_rules.specs.Slots.{undefined_slots};
 ghost use Rattle.sz_instr.specs.WellFormed.{is_well_formed};
-ghost use Rattle.sz_machine_rules.specs.Runs.{EndsRecord, RunsTo, StaticsRunTo};
-ghost use Rattle.sz_machine.specs.Acting.{state_of, world_of, in_record, in_static};
+ghost use Rattle.sz_instr.specs.Runs.{EndsRecord, RunsTo, StaticsRunTo};
+ghost use Rattle.sz_machine_rows.specs.Acting.{state_of, world_of};
+ghost use Rattle.sz_machine.specs.AtLines.{in_record, in_static};
 ghost use Rattle.sz_machine.specs.Ends.{seen_end, seen_statics_end, RunEnds, StaticsRunEnds};
-ghost use Rattle.sz_machine_rules.specs.States.{Goes};
+ghost use Rattle.sz_instr.specs.States.{Goes};
 ghost use Rattle.sz_machine.specs.CodeRuns.{Ends, OfEnds, EndsSo, LineDoes};
 ghost use Rattle.sz_machine.specs.LinesLeft.{ends_within, routines_end_within};
 
+use crate::acting::{act_in_record, act_in_static, base_charge, settle};
 use crate::asked::{RecordRun, StaticsRun};
-use crate::emitted::Emitted;
 use crate::ends::{Fault, RunEnd, StaticsEnd};
-use crate::run_state::{BUDGET_PASSED, Onward, RunState};
+use crate::quick::act_quickly;
 use std::alloc::Global;
 use sz_instr::{Code, Line, Routine};
 use sz_machine_cells::{Calls, Cell, Operands};
+use sz_machine_rows::{BUDGET_PASSED, Emitted, Onward, RunState};
 use sz_tabs::Emits;
 use sz_value::{NoMemory, Slot, Slots};
 
@@ -45,7 +47,7 @@ impl<'a> Room<'a> {
     pub fn new(alloc: Global) -> Room<'a> {
         Room {
             alloc,
-            state: RunState::new(alloc, 0),
+            state: fresh(alloc, 0),
             input: Cell::undefined(),
         }
     }
@@ -70,10 +72,11 @@ impl<'a> Room<'a> {
             statics,
             budget,
         };
-        self.state.renew(budget);
-        self.state.begin(&code.main)?;
+        renew(&mut self.state, budget);
+        begin(&mut self.state, &code.main)?;
         self.input.set_bytes(self.alloc, input)?;
-        self.state.run_record(
+        run_record(
+            &mut self.state,
             self.alloc,
             code,
             statics,
@@ -89,145 +92,152 @@ impl<'a> Room<'a> {
     }
 }
 
-impl<'a> RunState<'a> {
-    /// The state before a run with so many ticks, which takes no memory.
-    fn new(alloc: Global, budget: u64) -> RunState<'a>
-        ensures value { result ≡ record { operands = []; calls = record { locals = []; lists = []; callers = [] }; emits = []; left = budget } }
-    {
-        RunState {
-            operands: Operands::new(alloc),
-            calls: Calls::new(alloc),
-            emits: Emitted::new(alloc),
-            left: budget,
+/// The state before a run with so many ticks, which takes no memory.
+fn fresh<'a>(alloc: Global, budget: u64) -> RunState<'a>
+    ensures value { result ≡ record { operands = []; calls = record { locals = []; lists = []; callers = [] }; emits = []; left = budget } }
+{
+    RunState {
+        operands: Operands::new(alloc),
+        calls: Calls::new(alloc),
+        emits: Emitted::new(alloc),
+        left: budget,
+    }
+}
+
+/// Forgets the emits, and has so many ticks. The room is kept.
+fn renew(state: &mut RunState<'_>, budget: u64)
+    ensures value { state.new ≡ record state.old { emits = []; left = budget } }
+{
+    state.emits.clear();
+    state.left = budget;
+}
+
+/// Begins the routine without operands. The room is kept.
+fn begin(state: &mut RunState<'_>, routine: &Routine) -> Result<(), NoMemory>
+    ensures value { OnOk result (state.new ≡ record state.old {
+      operands = [];
+      calls = record { locals = undefined_slots routine.now.locals; lists = []; callers = [] };
+    }) }
+{
+    if state.operands.len() > 0 {
+        state.operands.clear();
+    }
+    state.calls.begin(routine.locals)
+}
+
+/// What the line at a place does in the run for a record.
+#[inline(always)]
+fn step_in_record<'a>(
+    state: &mut RunState<'a>,
+    alloc: Global,
+    code: &'a Code,
+    statics: &'a Slots,
+    input: &Cell<'a>,
+    at: usize,
+) -> Result<Onward, NoMemory>
+    requires there { IsSome input.now }
+    requires ends { Ends code.now (state_of state.old (in_record at statics.now input.now)) }
+    ensures value { IfOk result (λ next.
+        LineDoes code.now (in_record at statics.now input.now) (in_record at statics.now input.now) state.old next state.new) }
+{
+    let line = line_at(code, at);
+    let paid = state.pay(u64::from(line.charge));
+    if paid {
+        if let Some(next) = act_quickly(state, alloc, code, input, at, &line.instr) {
+            return Ok(next);
         }
     }
-
-    /// Forgets the emits, and has so many ticks. The room is kept.
-    fn renew(&mut self, budget: u64)
-        ensures value { self.new ≡ record self.old { emits = []; left = budget } }
-    {
-        self.emits.clear();
-        self.left = budget;
+    if !settle(state, paid, line.charge, &line.instr) {
+        return Ok(Onward::Fault(BUDGET_PASSED));
     }
+    act_in_record(
+        state,
+        alloc,
+        code,
+        statics,
+        input,
+        at,
+        line.place,
+        &line.instr,
+    )
+}
 
-    /// Begins the routine without operands. The room is kept.
-    fn begin(&mut self, routine: &Routine) -> Result<(), NoMemory>
-        ensures value { OnOk result (self.new ≡ record self.old {
-          operands = [];
-          calls = record { locals = undefined_slots routine.now.locals; lists = []; callers = [] };
-        }) }
-    {
-        if self.operands.len() > 0 {
-            self.operands.clear();
-        }
-        self.calls.begin(routine.locals)
+/// What the line at a place does in the run of a static.
+fn step_in_static<'a>(
+    state: &mut RunState<'a>,
+    alloc: Global,
+    code: &'a Code,
+    statics: &mut Slots,
+    at: usize,
+) -> Result<Onward, NoMemory>
+    requires ends { Ends code.now (state_of state.old (in_static at statics.old)) }
+    ensures value { IfOk result (λ next.
+        LineDoes code.now (in_static at statics.old) (in_static at statics.new) state.old next state.new) }
+{
+    let line = line_at(code, at);
+    let charge = base_charge(state, line.charge, &line.instr);
+    if !state.pay(charge) {
+        return Ok(Onward::Fault(BUDGET_PASSED));
     }
+    act_in_static(state, alloc, code, statics, at, line.place, &line.instr)
+}
 
-    /// What the line at a place does in the run for a record.
-    #[inline(always)]
-    fn step_in_record(
-        &mut self,
-        alloc: Global,
-        code: &'a Code,
-        statics: &'a Slots,
-        input: &Cell<'a>,
-        at: usize,
-    ) -> Result<Onward, NoMemory>
-        requires there { IsSome input.now }
-        requires ends { Ends code.now (state_of self.old (in_record at statics.now input.now)) }
-        ensures value { IfOk result (λ next.
-            LineDoes code.now (in_record at statics.now input.now) (in_record at statics.now input.now) self.old next self.new) }
-    {
+/// The run for a record from a place to its end.
+fn run_record<'a>(
+    state: &mut RunState<'a>,
+    alloc: Global,
+    code: &'a Code,
+    statics: &'a Slots,
+    input: &Cell<'a>,
+    start: usize,
+    asked: &RecordRun<'_>,
+) -> Result<RunEnd, NoMemory>
+    requires there { IsSome input.now }
+    requires ends { Ends code.now (state_of state.old (in_record start statics.now input.now)) }
+    requires within { ends_within code.now asked.now.lines.0 (Goes (state_of state.old (in_record start statics.now input.now))) ≡ true }
+    ensures value { IfOk result (λ end.
+        OfEnds code.now (state_of state.old (in_record start statics.now input.now)) (λ x. EndsRecord x (seen_end end))) }
+{
+    let mut at = start;
+    loop {
         let line = line_at(code, at);
-        let paid = self.pay(u64::from(line.charge));
-        if paid {
-            if let Some(next) = self.act_quickly(alloc, code, input, at, &line.instr) {
-                return Ok(next);
-            }
+        match step_in_record(state, alloc, code, statics, input, at)? {
+            Onward::On => at += 1,
+            Onward::To(to) => at = to,
+            Onward::End => return Ok(RunEnd::Done(state.emits.hand_over(alloc))),
+            Onward::Fault(kind) => return Ok(RunEnd::Fault(Fault {
+                kind,
+                place: line.place,
+            })),
         }
-        if !self.settle(paid, line.charge, &line.instr) {
-            return Ok(Onward::Fault(BUDGET_PASSED));
-        }
-        self.act_in_record(alloc, code, statics, input, at, line.place, &line.instr)
     }
+}
 
-    /// What the line at a place does in the run of a static.
-    fn step_in_static(
-        &mut self,
-        alloc: Global,
-        code: &'a Code,
-        statics: &mut Slots,
-        at: usize,
-    ) -> Result<Onward, NoMemory>
-        requires ends { Ends code.now (state_of self.old (in_static at statics.old)) }
-        ensures value { IfOk result (λ next.
-            LineDoes code.now (in_static at statics.old) (in_static at statics.new) self.old next self.new) }
-    {
+/// The run of a static from a place to its end: the fault, if it ends in one.
+fn run_static<'a>(
+    state: &mut RunState<'a>,
+    alloc: Global,
+    code: &'a Code,
+    statics: &mut Slots,
+    start: usize,
+    asked: &StaticsRun<'_>,
+) -> Result<Option<Fault>, NoMemory>
+    requires ends { Ends code.now (state_of state.old (in_static start statics.old)) }
+    requires within { ends_within code.now asked.now.lines.0 (Goes (state_of state.old (in_static start statics.old))) ≡ true }
+    ensures value { IfOk result (λ fault.
+        OfEnds code.now (state_of state.old (in_static start statics.old)) (EndsSo fault (world_of state.new) statics.new)) }
+{
+    let mut at = start;
+    loop {
         let line = line_at(code, at);
-        let charge = self.base_charge(line.charge, &line.instr);
-        if !self.pay(charge) {
-            return Ok(Onward::Fault(BUDGET_PASSED));
-        }
-        self.act_in_static(alloc, code, statics, at, line.place, &line.instr)
-    }
-
-    /// The run for a record from a place to its end.
-    fn run_record(
-        &mut self,
-        alloc: Global,
-        code: &'a Code,
-        statics: &'a Slots,
-        input: &Cell<'a>,
-        start: usize,
-        asked: &RecordRun<'_>,
-    ) -> Result<RunEnd, NoMemory>
-        requires there { IsSome input.now }
-        requires ends { Ends code.now (state_of self.old (in_record start statics.now input.now)) }
-        requires within { ends_within code.now asked.now.lines.0 (Goes (state_of self.old (in_record start statics.now input.now))) ≡ true }
-        ensures value { IfOk result (λ end.
-            OfEnds code.now (state_of self.old (in_record start statics.now input.now)) (λ x. EndsRecord x (seen_end end))) }
-    {
-        let mut at = start;
-        loop {
-            let line = line_at(code, at);
-            match self.step_in_record(alloc, code, statics, input, at)? {
-                Onward::On => at += 1,
-                Onward::To(to) => at = to,
-                Onward::End => return Ok(RunEnd::Done(self.emits.hand_over(alloc))),
-                Onward::Fault(kind) => return Ok(RunEnd::Fault(Fault {
-                    kind,
-                    place: line.place,
-                })),
-            }
-        }
-    }
-
-    /// The run of a static from a place to its end: the fault, if it ends in one.
-    fn run_static(
-        &mut self,
-        alloc: Global,
-        code: &'a Code,
-        statics: &mut Slots,
-        start: usize,
-        asked: &StaticsRun<'_>,
-    ) -> Result<Option<Fault>, NoMemory>
-        requires ends { Ends code.now (state_of self.old (in_static start statics.old)) }
-        requires within { ends_within code.now asked.now.lines.0 (Goes (state_of self.old (in_static start statics.old))) ≡ true }
-        ensures value { IfOk result (λ fault.
-            OfEnds code.now (state_of self.old (in_static start statics.old)) (EndsSo fault (world_of self.new) statics.new)) }
-    {
-        let mut at = start;
-        loop {
-            let line = line_at(code, at);
-            match self.step_in_static(alloc, code, statics, at)? {
-                Onward::On => at += 1,
-                Onward::To(to) => at = to,
-                Onward::End => return Ok(None),
-                Onward::Fault(kind) => return Ok(Some(Fault {
-                    kind,
-                    place: line.place,
-                })),
-            }
+        match step_in_static(state, alloc, code, statics, at)? {
+            Onward::On => at += 1,
+            Onward::To(to) => at = to,
+            Onward::End => return Ok(None),
+            Onward::Fault(kind) => return Ok(Some(Fault {
+                kind,
+                place: line.place,
+            })),
         }
     }
 }
@@ -293,13 +303,20 @@ fn run_each(
     requires within { routines_end_within code.now asked.now.lines.0 code.now.statics (new_world budget) (undefined_slots (length code.now.statics)) ≡ true }
     ensures value { (o : Outcome (List (Option Datum))) → StaticsRunTo code.now budget o → IfOk result (λ end. seen_statics_end end ≡ o) }
 {
-    let mut state = RunState::new(alloc, budget);
+    let mut state = fresh(alloc, budget);
     let count = code.statics.len();
     let mut statics = undefined(alloc, count)?;
     for i in 0..count {
         let routine = code.statics.get(i);
-        state.begin(routine)?;
-        if let Some(fault) = state.run_static(alloc, code, &mut statics, routine.entry, asked)? {
+        begin(&mut state, routine)?;
+        if let Some(fault) = run_static(
+            &mut state,
+            alloc,
+            code,
+            &mut statics,
+            routine.entry,
+            asked,
+        )? {
             return Ok(StaticsEnd::Fault(fault));
         }
     }

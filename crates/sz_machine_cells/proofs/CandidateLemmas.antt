@@ -13,12 +13,14 @@ use Rattle.sz_builtin.proofs.Parts.{parts_back}
 use Rattle.sz_machine_cells.proofs.ListLemmas.{keys_back}
 
 -- the candidates of an array
-pub of_array : (slice : Bool) (ds : List Datum) → candidates slice (Some (array (data_of ds))) ≡ numbers_of slice (length ds)
+pub of_array : (slice : Bool) (ds : List Datum)
+    → candidates slice (Some (array (data_of ds))) ≡ numbers_of slice (length ds)
 of_array true ds = ap (λ es. numbers_from 0 (suc (length es))) (parts_back ds)
 of_array false ds = ap (λ es. numbers_from 0 (length es)) (parts_back ds)
 
 -- the next of the numbers
-pub number_next : (first count : ℕ) → 0 < count → numbers_from first count ≡ int (pos first) ∷ numbers_from (first + 1) (count - 1)
+pub number_next : (first count : ℕ) → 0 < count
+    → numbers_from first count ≡ int (pos first) ∷ numbers_from (first + 1) (count - 1)
 number_next first zero h = absurd (omega (arith, h))
 number_next first (suc n) h =
     let further : suc first ≡ first + 1 = omega arith in
@@ -26,7 +28,8 @@ number_next first (suc n) h =
     λ i. int (pos first) ∷ numbers_from (further i) (fewer i)
 
 -- the key at a place, and those after it
-pub key_after : (ks : List Datum) (n : ℕ) (v : Value) → Some (seen v) ≡ slice_get ks n → drop n ks ≡ seen v ∷ drop (n + 1) ks
+pub key_after : (ks : List Datum) (n : ℕ) (v : Value) → Some (seen v) ≡ slice_get ks n
+    → drop n ks ≡ seen v ∷ drop (n + 1) ks
 key_after [] n v e = absurd (cc)
 key_after (k ∷ ks) zero v e = ap (λ o. unwrap_or o k ∷ ks) (sym e)
 key_after (k ∷ ks) (suc n) v e =
@@ -59,10 +62,12 @@ key_nth (p ∷ ps) zero = refl
 key_nth (p ∷ ps) (suc n) = key_nth ps n
 
 -- a key that is copied is no more among those that are left
-pub key_copied : (vs : List Value) (v : Value) (ps : List (Datum × Datum)) (p : Datum × Datum) (n : ℕ) → slice_get ps n ≡ Some p → seen v ≡ p.0
+pub key_copied : (vs : List Value) (v : Value) (ps : List (Datum × Datum)) (p : Datum × Datum) (n : ℕ)
+    → slice_get ps n ≡ Some p → seen v ≡ p.0
     → map seen (vs ++ v ∷ []) ++ drop (n + 1) (keys_of ps) ≡ map seen vs ++ drop n (keys_of ps)
 key_copied vs v ps p n at copied =
-    let here : Some (seen v) ≡ slice_get (keys_of ps) n = ap Some copied ∙ sym (ap (option_map (λ q. q.0)) at) ∙ key_nth ps n in
+    let here : Some (seen v) ≡ slice_get (keys_of ps) n =
+    ap Some copied ∙ sym (ap (option_map (λ q. q.0)) at) ∙ key_nth ps n in
     rw (map-append, append_assoc) (ap (λ ks. map seen vs ++ ks) (sym (key_after (keys_of ps) n v here)))
 
 -- after the last pair all keys are copied, and turned round twice

@@ -9,7 +9,7 @@ use Rattle.sz_value.specs.Data.{Datum}
 use Rattle.sz_value.specs.Seen.{seen}
 use Rattle.sz_value.specs.declared.value.Value.{Value}
 use Rattle.sz_world_rules.specs.Slots.{Slot, all_defined}
-use Rattle.sz_machine_rules.specs.States.{popped}
+use Rattle.sz_instr.specs.States.{popped}
 use Rattle.sz_machine_cells.specs.Results.{defined_of}
 
 -- of a list turned round, its last items come first
@@ -21,7 +21,8 @@ count_of_last : {X : Type 0} → (xs : List X) (n : ℕ) → n ≤ length xs →
 count_of_last xs n h = length-reverse (drop (length xs - n) xs) ∙ length-drop (length xs - n) xs ∙ omega (arith, h)
 
 -- what is left below the last ones
-pub below_last : {X : Type 0} → (xs : List X) (n : ℕ) → n ≤ length xs → reverse (take (length xs - n) xs) ≡ drop n (reverse xs)
+pub below_last : {X : Type 0} → (xs : List X) (n : ℕ) → n ≤ length xs
+    → reverse (take (length xs - n) xs) ≡ drop n (reverse xs)
 below_last xs n h =
     let k = length xs - n in
     sym (ap (drop n) (turned xs k)
@@ -29,7 +30,8 @@ below_last xs n h =
     ∙ drop-append_seam (reverse (drop k xs)) (reverse (take k xs)))
 
 -- the last ones, in order
-pub last_of : {X : Type 0} → (xs : List X) (n : ℕ) → n ≤ length xs → drop (length xs - n) xs ≡ reverse (take n (reverse xs))
+pub last_of : {X : Type 0} → (xs : List X) (n : ℕ) → n ≤ length xs
+    → drop (length xs - n) xs ≡ reverse (take n (reverse xs))
 last_of xs n h =
     let k = length xs - n in
     sym (ap (λ ys. reverse (take n ys)) (turned xs k)
@@ -41,8 +43,8 @@ last_of xs n h =
 map_reverse : {X Y : Type 0} → (f : X → Y) (xs : List X) → map f (reverse xs) ≡ reverse (map f xs)
 map_reverse f [] = refl
 map_reverse f (x ∷ xs) =
-    ap (map f) (reverse-append (x ∷ []) xs) ∙ map-append f (reverse xs) (x ∷ []) ∙ ap (λ ys. ys ++ f x ∷ []) (map_reverse f xs)
-    ∙ sym (reverse-append (f x ∷ []) (map f xs))
+    ap (map f) (reverse-append (x ∷ []) xs) ∙ map-append f (reverse xs) (x ∷ [])
+    ∙ ap (λ ys. ys ++ f x ∷ []) (map_reverse f xs) ∙ sym (reverse-append (f x ∷ []) (map f xs))
 
 -- values that are turned round twice
 pub keys_back : (vs : List Value) → reverse (map seen (reverse vs)) ≡ map seen vs
@@ -98,7 +100,8 @@ set_last (x ∷ []) (suc k) y e = absurd (omega (arith, e))
 set_last (x ∷ z ∷ xs) zero y e = absurd (omega (arith, e))
 set_last (x ∷ z ∷ xs) (suc k) y e = ap (λ l. x ∷ l) (set_last (z ∷ xs) k y (omega (arith, e)))
 
--- the items from a place on are moved behind others, one after the other; those that are left are the same in both lists
+-- the items from a place on are moved behind others, one after the other; those that are left are the same in both
+-- lists
 module _ {X : Type 0} (first xs ys : List X) (from i : ℕ) (same : drop (from + i) ys ≡ drop (from + i) xs) where
   -- one more is moved
   pub one_moved : (x : X) → from + i < length xs → x ≡ get_or ys (from + i) x
@@ -120,28 +123,34 @@ module _ {X : Type 0} (first xs ys : List X) (from i : ℕ) (same : drop (from +
   others_stay y =
       let more : (from + i) + 1 ≡ from + (i + 1) = omega arith in
       drop-set-lt (from + (i + 1)) ys (from + i) y (omega arith)
-      ∙ sym (ap (λ n. drop n ys) more) ∙ sym (drop-drop 1 (from + i) ys) ∙ ap (drop 1) same ∙ drop-drop 1 (from + i) xs ∙ ap (λ n. drop n xs) more
+      ∙ sym (ap (λ n. drop n ys) more) ∙ sym (drop-drop 1 (from + i) ys) ∙ ap (drop 1) same
+      ∙ drop-drop 1 (from + i) xs ∙ ap (λ n. drop n xs) more
 
 -- the next of the keys
 pub key_next : (vs : List Value) (v : Value) → reverse (map seen (vs ++ v ∷ [])) ≡ seen v ∷ reverse (map seen vs)
 key_next vs v = ap reverse (map-append seen vs (v ∷ [])) ∙ reverse-append (map seen vs) (seen v ∷ [])
 
 -- another topmost item
-pub top_set : {X : Type 0} → (xs : List X) (y : X) → 0 < length xs → reverse (set xs (length xs - 1) y) ≡ y ∷ drop 1 (reverse xs)
+pub top_set : {X : Type 0} → (xs : List X) (y : X) → 0 < length xs
+    → reverse (set xs (length xs - 1) y) ≡ y ∷ drop 1 (reverse xs)
 top_set xs y h =
     let k = length xs - 1 in
-    ap reverse (set_last xs k y (omega (arith, h))) ∙ reverse-append (take k xs) (y ∷ []) ∙ ap (λ l. y ∷ l) (below_last xs 1 h)
+    ap reverse (set_last xs k y (omega (arith, h))) ∙ reverse-append (take k xs) (y ∷ [])
+    ∙ ap (λ l. y ∷ l) (below_last xs 1 h)
 
 -- another third item from the top, below two that are taken off
-pub third_set : {X : Type 0} → (xs : List X) (y : X) → 2 < length xs → drop 2 (reverse (set xs (length xs - 3) y)) ≡ y ∷ drop 3 (reverse xs)
+pub third_set : {X : Type 0} → (xs : List X) (y : X) → 2 < length xs
+    → drop 2 (reverse (set xs (length xs - 3) y)) ≡ y ∷ drop 3 (reverse xs)
 third_set xs y h =
     let k = length xs - 3 in
     let ys = set xs k y in
     let long = length-set xs k y in
     sym (below_last ys 2 (omega (arith, long, h))) ∙ ap (λ n. reverse (take n ys)) (omega (arith, long, h))
-    ∙ ap reverse (take_more_set xs k y (omega (arith, h))) ∙ reverse-append (take k xs) (y ∷ []) ∙ ap (λ l. y ∷ l) (below_last xs 3 (omega (arith, h)))
+    ∙ ap reverse (take_more_set xs k y (omega (arith, h))) ∙ reverse-append (take k xs) (y ∷ [])
+    ∙ ap (λ l. y ∷ l) (below_last xs 3 (omega (arith, h)))
 
-pub third_is : {X : Type 0} → (xs : List X) (d : X) → 2 < length xs → drop 2 (reverse xs) ≡ get_or xs (length xs - 3) d ∷ drop 3 (reverse xs)
+pub third_is : {X : Type 0} → (xs : List X) (d : X) → 2 < length xs
+    → drop 2 (reverse xs) ≡ get_or xs (length xs - 3) d ∷ drop 3 (reverse xs)
 third_is xs d h =
     let third = get_or xs (length xs - 3) d in
     ap (λ ys. drop 2 (reverse ys)) (sym (set-get_or xs (length xs - 3) d)) ∙ third_set xs third h
@@ -156,8 +165,8 @@ defined_back (Some d ∷ xs) =
     ∙ ap (λ ds. ds ++ d ∷ []) (defined_back xs) ∙ sym (reverse-append (d ∷ []) (defined_of xs))
 
 -- where all of the topmost operands are defined, their values, taken off one after the other, are turned round
-pub all_popped : (vs : List Value) (xs : List Slot) (n : ℕ) → is_some (all_defined (popped n xs)) ≡ true → map seen vs ≡ defined_of (take n xs)
-    → Some (map seen (reverse vs)) ≡ all_defined (popped n xs)
+pub all_popped : (vs : List Value) (xs : List Slot) (n : ℕ) → is_some (all_defined (popped n xs)) ≡ true
+    → map seen vs ≡ defined_of (take n xs) → Some (map seen (reverse vs)) ≡ all_defined (popped n xs)
 all_popped vs xs n all is =
     ap Some (map_reverse seen vs ∙ ap reverse is ∙ sym (defined_back (take n xs)))
     ∙ sym (are_all (popped n xs) (all_told (popped n xs) ∙ all))
@@ -167,7 +176,8 @@ pub not_all_popped : (xs : List Slot) → is_some (all_defined xs) ≡ false →
 not_all_popped xs e = sym (are_not_all xs (all_told xs ∙ e))
 
 -- the item after so many is taken off
-pub one_off : {X : Type 0} → (xs : List X) (k : ℕ) (x : X) (ys : List X) → drop k xs ≡ x ∷ ys → (drop (k + 1) xs ≡ ys) × (take (k + 1) xs ≡ take k xs ++ x ∷ [])
+pub one_off : {X : Type 0} → (xs : List X) (k : ℕ) (x : X) (ys : List X) → drop k xs ≡ x ∷ ys
+    → (drop (k + 1) xs ≡ ys) × (take (k + 1) xs ≡ take k xs ++ x ∷ [])
 one_off [] zero x ys e = absurd (cc)
 one_off [] (suc k) x ys e = absurd (cc)
 one_off (y ∷ xs) zero x ys e = (ap (drop 1) e, ap (λ l. get_or l 0 x ∷ []) e)

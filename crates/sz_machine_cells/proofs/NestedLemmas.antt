@@ -7,7 +7,8 @@ use Rattle.sz_value.specs.Maps.{value_at}
 use Rattle.sz_value.specs.Places.{IsPlaceOf}
 use Rattle.sz_machine_cells.specs.Nested.{nth, nested, value_nth}
 
-into : (ns : List ℕ) (n : ℕ) (part : Option Datum) → ((d : Datum) → nested (ns ++ n ∷ []) d ≡ option_and_then (nth n) (nested ns d))
+into : (ns : List ℕ) (n : ℕ) (part : Option Datum)
+    → ((d : Datum) → nested (ns ++ n ∷ []) d ≡ option_and_then (nth n) (nested ns d))
     → option_and_then (nested (ns ++ n ∷ [])) part ≡ option_and_then (nth n) (option_and_then (nested ns) part)
 into ns n None deeper = refl
 into ns n (Some e) deeper = deeper e

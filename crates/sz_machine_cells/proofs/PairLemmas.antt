@@ -59,7 +59,8 @@ module _ (ps : List (Datum × Datum)) (most : ℕ) where
       le-leb (weight_of (mapping (entries_of ps))) most (omega (arith, within, same))
 
   -- where its pairs and one weigh more than this, it does
-  pub pairs_pass : most < 1 + pairs_weight ps → most < 2 ^ 64 - 1 → nat_le (weight_of (mapping (entries_of ps))) most ≡ false
+  pub pairs_pass : most < 1 + pairs_weight ps → most < 2 ^ 64 - 1
+      → nat_le (weight_of (mapping (entries_of ps))) most ≡ false
   pairs_pass more fits =
       let least = cut ps in
       lt-leb (weight_of (mapping (entries_of ps))) most (omega (arith, more, fits, least))
@@ -69,9 +70,11 @@ module _ (ps : List (Datum × Datum)) (most : ℕ) where
   all_fit is = le-leb (weight_of (mapping (entries_of ps))) most (omega (arith, is))
 
 -- a pair whose key is less than all others stays in front of them
-under_one : (p q : Datum × Datum) (qs : List (Datum × Datum)) → compare p.0 q.0 ≡ Less → with_pair q.0 q.1 (p ∷ qs) ≡ p ∷ with_pair q.0 q.1 qs
+under_one : (p q : Datum × Datum) (qs : List (Datum × Datum)) → compare p.0 q.0 ≡ Less
+    → with_pair q.0 q.1 (p ∷ qs) ≡ p ∷ with_pair q.0 q.1 qs
 under_one p q qs less =
-    ap (λ o. match_ordering o ((q.0, q.1) ∷ p ∷ qs) ((p.0, q.1) ∷ qs) (p ∷ with_pair q.0 q.1 qs)) (turned q.0 p.0 ∙ ap ordering_reverse less)
+    ap (λ o. match_ordering o ((q.0, q.1) ∷ p ∷ qs) ((p.0, q.1) ∷ qs) (p ∷ with_pair q.0 q.1 qs))
+    (turned q.0 p.0 ∙ ap ordering_reverse less)
 
 under : (p : Datum × Datum) (ps qs : List (Datum × Datum)) → AllByRecursion (λ k. compare p.0 k ≡ Less) (keys_of ps)
     → with_pairs (p ∷ qs) ps ≡ p ∷ with_pairs qs ps
@@ -100,11 +103,13 @@ last_ones_are (p ∷ []) order = refl
 last_ones_are (p ∷ q ∷ ps) order = by (last_ones_are (q ∷ ps) order.1) (compare p.0 q.0) refl
   where
     by : last_ones (q ∷ ps) ≡ with_pairs [] (q ∷ ps)
-        → (o : Ordering) → compare p.0 q.0 ≡ o → cond (is_eq o) (last_ones (q ∷ ps)) (p ∷ last_ones (q ∷ ps)) ≡ with_pairs [] (p ∷ q ∷ ps)
+        → (o : Ordering) → compare p.0 q.0 ≡ o
+        → cond (is_eq o) (last_ones (q ∷ ps)) (p ∷ last_ones (q ∷ ps)) ≡ with_pairs [] (p ∷ q ∷ ps)
     by rest Less is = ap (λ l. p ∷ l) rest ∙ sym (under p (q ∷ ps) [] (less_than_all p.0 q ps is order.1))
     by rest Equal is =
         let same : p.0 ≡ q.0 = compare_ties p.0 q.0 is in
-        rest ∙ sym (ap (λ l. with_pairs l ps) (ap (λ k. with_pair q.0 q.1 (with_pair k p.1 [])) same ∙ last_stands q.0 p.1 q.1 []))
+        rest ∙ sym (ap (λ l. with_pairs l ps)
+        (ap (λ k. with_pair q.0 q.1 (with_pair k p.1 [])) same ∙ last_stands q.0 p.1 q.1 []))
     by rest Greater is = let e = sym (ap is_lt (turned q.0 p.0 ∙ ap ordering_reverse is)) ∙ order.0 in cc
 
 -- the keys of a map rise
@@ -149,7 +154,8 @@ pub keys_ordered : IsStrictWeakOrder key_less
 keys_ordered = ranks_by compare_total (λ (p : PairView). seen_view p.key)
 
 -- the pairs that a test of their values picks
-picked : (test : Pair → Bool) (xs : List PairView) → filter test (map as_pair xs) ≡ map as_pair (filter (λ x. test (as_pair x)) xs)
+picked : (test : Pair → Bool) (xs : List PairView)
+    → filter test (map as_pair xs) ≡ map as_pair (filter (λ x. test (as_pair x)) xs)
 picked test [] = refl
 picked test (x ∷ xs) = by (test (as_pair x)) (picked test xs)
   where
@@ -161,14 +167,17 @@ picked test (x ∷ xs) = by (test (as_pair x)) (picked test xs)
 
 -- a view of a value that stands somewhere
 abbrev view_of : Pair → PairView
-view_of v = record { key = views.Whole (record { ref_ptr = (0, 0); now = v.key }); value = views.Whole (record { ref_ptr = (0, 0); now = v.value }) }
+view_of v = record {
+  key = views.Whole (record { ref_ptr = (0, 0); now = v.key });
+  value = views.Whole (record { ref_ptr = (0, 0); now = v.value });
+}
 
 module _ (xs ys : List PairView) where
   stable_values : IsStableBy key_less xs ys → IsStableBy gather.key_less (map as_pair xs) (map as_pair ys)
   stable_values stable v =
       picked (ties gather.key_less v) ys
-      ∙ ap (map as_pair) (filter_agree _ (ties key_less (view_of v)) same ys ∙ stable (view_of v) ∙ sym (filter_agree _ (ties key_less (view_of v)) same xs))
-      ∙ sym (picked (ties gather.key_less v) xs)
+      ∙ ap (map as_pair) (filter_agree _ (ties key_less (view_of v)) same ys ∙ stable (view_of v)
+      ∙ sym (filter_agree _ (ties key_less (view_of v)) same xs)) ∙ sym (picked (ties gather.key_less v) xs)
     where
       same : (x : PairView) → ties gather.key_less v (as_pair x) ≡ ties key_less (view_of v) x
       same x = ap (λ k. not (is_lt (compare (seen v.key) k)) && not (is_lt (compare k (seen v.key)))) (value_seen x.key)
@@ -176,15 +185,18 @@ module _ (xs ys : List PairView) where
   -- a stable sort by the keys changes nothing of the map
   pub sorted_alike : IsStableBy key_less xs ys → with_pairs [] (seen_pair_views ys) ≡ with_pairs [] (seen_pair_views xs)
   sorted_alike stable =
-      ap (with_pairs []) (sym (pairs_seen ys)) ∙ gather.sorted_alike (map as_pair xs) (map as_pair ys) (stable_values stable)
+      ap (with_pairs []) (sym (pairs_seen ys))
+      ∙ gather.sorted_alike (map as_pair xs) (map as_pair ys) (stable_values stable)
       ∙ ap (with_pairs []) (pairs_seen xs)
 
 -- after a sort by the keys they don't fall
 pub dont_fall : (ps : List PairView) → IsSortedBy key_less ps → DontFall (seen_pair_views ps)
 dont_fall [] order = tt
 dont_fall (p ∷ []) order = tt
-dont_fall (p ∷ q ∷ ps) order =
-    (order 0 p (omega arith) (omega arith), dont_fall (q ∷ ps) (λ k d low high. next k d (order (suc k) d (omega arith) (omega (arith, high)))))
+dont_fall (p ∷ q ∷ ps) order = (
+  order 0 p (omega arith) (omega arith),
+  dont_fall (q ∷ ps) (λ k d low high. next k d (order (suc k) d (omega arith) (omega (arith, high)))),
+)
   where
     next : (k : ℕ) (d : PairView) → key_less (get_or (p ∷ q ∷ ps) (suc k + 1) d) (get_or (q ∷ ps) k d) ≡ false
         → key_less (get_or (q ∷ ps) (k + 1) d) (get_or (q ∷ ps) k d) ≡ false
@@ -193,9 +205,9 @@ dont_fall (p ∷ q ∷ ps) order =
         subst (λ m. key_less (get_or (p ∷ q ∷ ps) m d) (get_or (q ∷ ps) k d) ≡ false) later is
 
 -- one pair more is copied
-pub one_copied : (ps : List PairView) (i : ℕ) (p : PairView) (made more : List Pair) (copy : Pair) → i < length ps → p ≡ get_or ps i p
-    → seen_pair copy ≡ seen_pair_view p → more ≡ made ++ copy ∷ [] → map seen_pair made ≡ seen_pair_views (take i ps)
-    → map seen_pair more ≡ seen_pair_views (take (i + 1) ps)
+pub one_copied : (ps : List PairView) (i : ℕ) (p : PairView) (made more : List Pair) (copy : Pair) → i < length ps
+    → p ≡ get_or ps i p → seen_pair copy ≡ seen_pair_view p → more ≡ made ++ copy ∷ []
+    → map seen_pair made ≡ seen_pair_views (take i ps) → map seen_pair more ≡ seen_pair_views (take (i + 1) ps)
 one_copied ps i p made more copy inside here same is so_far =
     ap (map seen_pair) is
     ∙ map-append seen_pair made (copy ∷ [])
@@ -212,7 +224,8 @@ module _ (ps : List PairView) (i : ℕ) (d : PairView) (inside : i < length ps) 
       let one = drop_more ps i d inside in
       let rest = last_ones (seen_pair_views (drop (i + 1) ps)) in
       ap (λ l. last_ones (seen_pair_views l)) one
-      ∙ ap (λ t. cond t rest (seen_pair_view (get_or ps i d) ∷ rest)) (sym (ap (λ l. is_followed (seen_pair_views l)) one) ∙ is)
+      ∙ ap (λ t. cond t rest (seen_pair_view (get_or ps i d) ∷ rest))
+      (sym (ap (λ l. is_followed (seen_pair_views l)) one) ∙ is)
 
 module _ (ps : List PairView) (i : ℕ) (kept : List PairView) (all : List (Datum × Datum)) (inside : i < length ps)
     (so_far : seen_pair_views kept ++ last_ones (seen_pair_views (drop i ps)) ≡ all) where
@@ -239,7 +252,8 @@ no_map xs none = ap (option_map (λ ds. mapping (entries_of (operations.with_pai
 
 module _ (xs : List Slot) (ps : List (Datum × Datum)) (order : DontFall ps) where
   -- else it has the last ones of the pairs, sorted by their keys
-  pub map_is : list_all is_some xs ≡ true → with_pairs [] ps ≡ with_pairs [] (by_turns (defined_of xs)) → Some (mapping (entries_of (last_ones ps))) ≡ map_of xs
+  pub map_is : list_all is_some xs ≡ true → with_pairs [] ps ≡ with_pairs [] (by_turns (defined_of xs))
+      → Some (mapping (entries_of (last_ones ps))) ≡ map_of xs
   map_is all alike =
       ap (λ l. Some (mapping (entries_of l))) (last_ones_are ps order ∙ alike ∙ sym (put_by_turns [] (defined_of xs)))
       ∙ sym (ap (option_map (λ ds. mapping (entries_of (operations.with_pairs [] ds)))) (are_all xs all))

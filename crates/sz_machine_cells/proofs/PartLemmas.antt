@@ -32,31 +32,34 @@ cut [] = omega arith
 cut (d ∷ ds) = omega (arith, cut ds)
 
 -- a composite weighs one more than its parts
-pub composite_within : (xs : List Slot) (weight most : ℕ) → list_all is_some xs ≡ true → weight ≡ 1 + slots_weight xs → weight ≤ most
-    → most < 2 ^ 64 → weight ≡ composite_weight (all_defined xs)
+pub composite_within : (xs : List Slot) (weight most : ℕ) → list_all is_some xs ≡ true
+    → weight ≡ 1 + slots_weight xs → weight ≤ most → most < 2 ^ 64 → weight ≡ composite_weight (all_defined xs)
 composite_within xs weight most all is within fits =
     let ds = defined_of xs in
     let parts : slots_weight xs ≡ weight_of_all ds = defined_weigh xs in
     let same = uncut ds (omega (arith, is, within, fits, parts)) in
-    let cut_off : weight ≡ min (1 + data_weight (data_of ds)) (2 ^ 64 - 1) = omega (arith, is, within, fits, parts, same) in
+    let cut_off : weight ≡ min (1 + data_weight (data_of ds)) (2 ^ 64 - 1) =
+    omega (arith, is, within, fits, parts, same) in
     cut_off ∙ ap composite_weight (sym (are_all xs all))
 
 -- where its parts and one weigh more than this, it does
-pub composite_passes : (xs : List Slot) (most : ℕ) → list_all is_some xs ≡ true → most < 1 + slots_weight xs → most < 2 ^ 64 - 1
-    → most < composite_weight (all_defined xs)
+pub composite_passes : (xs : List Slot) (most : ℕ) → list_all is_some xs ≡ true → most < 1 + slots_weight xs
+    → most < 2 ^ 64 - 1 → most < composite_weight (all_defined xs)
 composite_passes xs most all more fits =
     let ds = defined_of xs in
     let parts : slots_weight xs ≡ weight_of_all ds = defined_weigh xs in
     let least = cut ds in
-    let is : composite_weight (all_defined xs) ≡ min (1 + data_weight (data_of ds)) (2 ^ 64 - 1) = ap composite_weight (are_all xs all) in
+    let is : composite_weight (all_defined xs) ≡ min (1 + data_weight (data_of ds)) (2 ^ 64 - 1) =
+    ap composite_weight (are_all xs all) in
     omega (arith, more, fits, parts, least, is)
 
 -- a weight stays at the greatest number
-pub composite_most : (xs : List Slot) (most : ℕ) → list_all is_some xs ≡ true → most < 1 + slots_weight xs → most ≡ 2 ^ 64 - 1
-    → most ≡ composite_weight (all_defined xs)
+pub composite_most : (xs : List Slot) (most : ℕ) → list_all is_some xs ≡ true → most < 1 + slots_weight xs
+    → most ≡ 2 ^ 64 - 1 → most ≡ composite_weight (all_defined xs)
 composite_most xs most all more is_most =
     let ds = defined_of xs in
     let parts : slots_weight xs ≡ weight_of_all ds = defined_weigh xs in
     let least = cut ds in
-    let is : composite_weight (all_defined xs) ≡ min (1 + data_weight (data_of ds)) (2 ^ 64 - 1) = ap composite_weight (are_all xs all) in
+    let is : composite_weight (all_defined xs) ≡ min (1 + data_weight (data_of ds)) (2 ^ 64 - 1) =
+    ap composite_weight (are_all xs all) in
     omega (arith, more, is_most, parts, least, is)

@@ -29,14 +29,17 @@ part_in_part xs before count more few h =
     let rest = drop before xs in
     let long = length-take count rest in
     let all : take count rest ≡ take (more + (count - more)) rest = ap (λ n. take n rest) (omega (arith, long, h)) in
-    let cut : drop more (take count rest) ≡ take (count - more) (drop more rest) = ap (drop more) all ∙ drop-take more (count - more) rest in
-    ap (take few) cut ∙ take-take few (count - more) (drop more rest) (omega (arith, long, h)) ∙ ap (take few) (drop-drop more before xs)
+    let cut : drop more (take count rest) ≡ take (count - more) (drop more rest) =
+    ap (drop more) all ∙ drop-take more (count - more) rest in
+    ap (take few) cut ∙ take-take few (count - more) (drop more rest) (omega (arith, long, h))
+    ∙ ap (take few) (drop-drop more before xs)
 
 -- and it is of ASCII where that part is
 pub ascii_in_part : (xs : List ℕ) (before count more few : ℕ) → more + few ≤ length (take count (drop before xs))
     → is_ascii (take count (drop before xs)) ≡ true → is_ascii (take few (drop (before + more) xs)) ≡ true
 ascii_in_part xs before count more few h ascii =
-    ap is_ascii (sym (part_in_part xs before count more few h)) ∙ ascii_part (take count (drop before xs)) more few ascii
+    ap is_ascii (sym (part_in_part xs before count more few h))
+    ∙ ascii_part (take count (drop before xs)) more few ascii
 
 -- after the end there is nothing
 pub nothing_after : (xs : List ℕ) (n : ℕ) → length xs < n → drop n xs ≡ []
@@ -51,7 +54,8 @@ pub all_are_a_part : (xs : List ℕ) → take (length xs) (drop 0 xs) ≡ xs
 all_are_a_part xs = take_all (length xs) xs (omega arith)
 
 -- what was cut below two places
-pub is_cut : (xs : List Slot) (place : ℕ) (now after : Slot) (from to : ℤ) (weight : ℕ) → 2 < length xs → place ≡ length xs - 3
+pub is_cut : (xs : List Slot) (place : ℕ) (now after : Slot) (from to : ℤ) (weight : ℕ) → 2 < length xs
+    → place ≡ length xs - 3
     → reverse xs ≡ Some (int to) ∷ Some (int from) ∷ drop 2 (reverse xs) → now ≡ get_or xs place now
     → after ≡ slice_of now (Some (int from)) (Some (int to)) → weight ≡ result_weight after
     → IsCut from to weight (reverse xs) (drop 1 (drop 1 (reverse (set xs place after))))
@@ -60,9 +64,10 @@ is_cut xs place now after from to weight long at ints is cut weighs =
     record {
       base = now;
       below = drop 3 (reverse xs);
-      was = ints ∙ ap (λ l. Some (int to) ∷ Some (int from) ∷ l) (third_is xs now long ∙ ap (λ x. x ∷ drop 3 (reverse xs)) there);
+      was = ints ∙ ap (λ l. Some (int to) ∷ Some (int from) ∷ l)
+          (third_is xs now long ∙ ap (λ x. x ∷ drop 3 (reverse xs)) there);
       is =
-          drop-drop 1 1 (reverse (set xs place after)) ∙ ap (λ n. drop 2 (reverse (set xs n after))) at ∙ third_set xs after long
-          ∙ ap (λ x. x ∷ drop 3 (reverse xs)) cut;
+          drop-drop 1 1 (reverse (set xs place after)) ∙ ap (λ n. drop 2 (reverse (set xs n after))) at
+          ∙ third_set xs after long ∙ ap (λ x. x ∷ drop 3 (reverse xs)) cut;
       weighs = weighs ∙ ap result_weight cut;
     }

@@ -15,8 +15,8 @@ use Rattle.sz_world_rules.specs.Stores.{with_part, with_change, to_element}
 use Rattle.sz_builtin.proofs.Parts.{pairs_back}
 
 -- the part is there, and so is what it becomes
-pub part_there : (ds : List Datum) (n : ℕ) (change : Slot → Option Datum) (d e f : Datum) → slice_get ds n ≡ Some d → change (Some d) ≡ Some e
-    → with_part ds n change ≡ Some (set (set ds n f) n e)
+pub part_there : (ds : List Datum) (n : ℕ) (change : Slot → Option Datum) (d e f : Datum) → slice_get ds n ≡ Some d
+    → change (Some d) ≡ Some e → with_part ds n change ≡ Some (set (set ds n f) n e)
 part_there ds n change d e f is becomes = rw is (rw becomes (ap (λ l. Some l) (sym (set-set ds n f e))))
 
 -- there is no such part
@@ -24,16 +24,18 @@ pub no_part : (ds : List Datum) (n : ℕ) (change : Slot → Option Datum) → l
 no_part ds n change past = rw (slice_get_past ds n past) refl
 
 -- the part doesn't become anything
-pub no_change : (ds : List Datum) (n : ℕ) (change : Slot → Option Datum) (d : Datum) → slice_get ds n ≡ Some d → change (Some d) ≡ None
-    → with_part ds n change ≡ None
+pub no_change : (ds : List Datum) (n : ℕ) (change : Slot → Option Datum) (d : Datum) → slice_get ds n ≡ Some d
+    → change (Some d) ≡ None → with_part ds n change ≡ None
 no_change ds n change d is becomes = rw is (rw becomes refl)
 
 -- a pair in front of others, or at its place among them
-abbrev put : Datum → Datum → Datum × Datum → List (Datum × Datum) → List (Datum × Datum) → Ordering → List (Datum × Datum)
+abbrev put : Datum → Datum → Datum × Datum → List (Datum × Datum) → List (Datum × Datum) → Ordering
+    → List (Datum × Datum)
 put k v p ps rest o = match_ordering o ((k, v) ∷ p ∷ ps) ((p.0, v) ∷ ps) (p ∷ rest)
 
-put_by : (k d e : Datum) (p : Datum × Datum) (ps : List (Datum × Datum)) → with_pair k e (with_pair k d ps) ≡ with_pair k e ps
-    → (o : Ordering) → compare k p.0 ≡ o → with_pair k e (put k d p ps (with_pair k d ps) o) ≡ put k e p ps (with_pair k e ps) o
+put_by : (k d e : Datum) (p : Datum × Datum) (ps : List (Datum × Datum))
+    → with_pair k e (with_pair k d ps) ≡ with_pair k e ps → (o : Ordering) → compare k p.0 ≡ o
+    → with_pair k e (put k d p ps (with_pair k d ps) o) ≡ put k e p ps (with_pair k e ps) o
 put_by k d e p ps rest Less is = ap (put k e (k, d) (p ∷ ps) (with_pair k e (p ∷ ps))) (compare_itself k k refl)
 put_by k d e p ps rest Equal is = ap (put k e (p.0, d) ps (with_pair k e ps)) is
 put_by k d e p ps rest Greater is =

@@ -13,7 +13,8 @@ use Rattle.sz_machine_cells.specs.declared.maps.PairView.{PairView}
 use Rattle.sz_machine_cells.proofs.ListLemmas.{one_more_defined, no_more_defined}
 
 -- putting in keys and values by turns is putting in their pairs
-pub put_by_turns : (pairs : List (Datum × Datum)) (ds : List Datum) → with_pairs pairs ds ≡ maps.with_pairs pairs (by_turns ds)
+pub put_by_turns : (pairs : List (Datum × Datum)) (ds : List Datum)
+    → with_pairs pairs ds ≡ maps.with_pairs pairs (by_turns ds)
 put_by_turns pairs [] = refl
 put_by_turns pairs (k ∷ []) = refl
 put_by_turns pairs (k ∷ v ∷ ds) = put_by_turns (maps.with_pair k v pairs) ds
@@ -33,7 +34,8 @@ turn_ends (j ∷ []) k d e = (ap (λ o. (unwrap_or o j, d) ∷ []) e, refl)
 turn_ends (j ∷ v ∷ ds) k d e = let rest = turn_ends ds k d e in (ap (λ ps. (j, v) ∷ ps) rest.0, rest.1)
 
 -- a part more, which is a key that waits
-pub key_waits : (xs : List Slot) (pairs : List PairView) (v : View) → ArePaired (defined_of xs) (seen_pair_views pairs) None
+pub key_waits : (xs : List Slot) (pairs : List PairView) (v : View)
+    → ArePaired (defined_of xs) (seen_pair_views pairs) None
     → ArePaired (defined_of (xs ++ Some (seen_view v) ∷ [])) (seen_pair_views pairs) (Some (seen_view v))
 key_waits xs pairs v h =
     let parts = sym (one_more_defined xs (seen_view v)) in
@@ -41,14 +43,17 @@ key_waits xs pairs v h =
     record { paired = h.paired ∙ sym begins.0 ∙ ap by_turns parts; waits = sym begins.1 ∙ ap left_over parts }
 
 -- a part more, which is the value of the key that waited
-pub pair_made : (xs : List Slot) (pairs : List PairView) (k v : View) → ArePaired (defined_of xs) (seen_pair_views pairs) (Some (seen_view k))
-    → ArePaired (defined_of (xs ++ Some (seen_view v) ∷ [])) (seen_pair_views (pairs ++ record { key = k; value = v } ∷ [])) None
+pub pair_made : (xs : List Slot) (pairs : List PairView) (k v : View)
+    → ArePaired (defined_of xs) (seen_pair_views pairs) (Some (seen_view k))
+    → ArePaired (defined_of (xs ++ Some (seen_view v) ∷ []))
+    (seen_pair_views (pairs ++ record { key = k; value = v } ∷ [])) None
 pair_made xs pairs k v h =
     let parts = sym (one_more_defined xs (seen_view v)) in
     let pair : PairView = record { key = k; value = v } in
     let ends = turn_ends (defined_of xs) (seen_view k) (seen_view v) (sym h.waits) in
     record {
-      paired = map-append seen_pair_view pairs (pair ∷ []) ∙ ap (λ ps. ps ++ seen_pair_view pair ∷ []) h.paired ∙ sym ends.0 ∙ ap by_turns parts;
+      paired = map-append seen_pair_view pairs (pair ∷ []) ∙ ap (λ ps. ps ++ seen_pair_view pair ∷ []) h.paired
+          ∙ sym ends.0 ∙ ap by_turns parts;
       waits = sym ends.1 ∙ ap left_over parts;
     }
 
@@ -58,6 +63,8 @@ pub none_waits : (xs : List Slot) (ps : List (Datum × Datum)) (key : Option Dat
 none_waits xs ps key h = subst (λ ds. ArePaired ds ps key) (sym (no_more_defined xs)) h
 
 -- the same where the front of a list becomes longer by one
-module _ (xs : List Slot) (i : ℕ) (x : Slot) (inside : i < length xs) (here : x ≡ get_or xs i x) (ps : List (Datum × Datum)) (key : Option Datum) where
+module _ (xs : List Slot) (i : ℕ) (x : Slot) (inside : i < length xs) (here : x ≡ get_or xs i x)
+    (ps : List (Datum × Datum)) (key : Option Datum) where
   pub one_longer : ArePaired (defined_of (take i xs ++ x ∷ [])) ps key → ArePaired (defined_of (take (i + 1) xs)) ps key
-  one_longer h = subst (λ l. ArePaired (defined_of l) ps key) (ap (λ y. take i xs ++ y ∷ []) here ∙ sym (take_more xs i x inside)) h
+  one_longer h = subst (λ l. ArePaired (defined_of l) ps key)
+      (ap (λ y. take i xs ++ y ∷ []) here ∙ sym (take_more xs i x inside)) h

@@ -4,7 +4,7 @@ use Rattle.std.specs.Coded.{Coded, coded_list, coded×, coded_ℕ, code_by}
 use Rattle.sz_value.specs.Data.{Datum}
 use Rattle.sz_value.specs.Code.{slots_code, parts_code}
 use Rattle.sz_world_rules.specs.Slots.{Slot}
-use Rattle.sz_machine_rules.specs.States.{Caller}
+use Rattle.sz_instr.specs.States.{Caller}
 
 -- the locals and the candidate lists of the routine that runs, and the routines that wait, the innermost first
 pub record Open : Type 0 where
@@ -21,7 +21,8 @@ caller_code =
 -- how the open calls are stored
 abbrev pub open_code : Coded Open
 open_code =
-    code_by (List Slot × (List (List Datum) × List Caller)) (coded× slots_code (coded× (coded_list parts_code) (coded_list caller_code)))
+    code_by (List Slot × (List (List Datum) × List Caller))
+    (coded× slots_code (coded× (coded_list parts_code) (coded_list caller_code)))
     (λ o. (o.locals, (o.lists, o.callers))) (λ p. record { locals = p.0; lists = p.1.0; callers = p.1.1 }) (λ _. refl)
 
 -- the routine that runs, as one that waits and goes on at a place

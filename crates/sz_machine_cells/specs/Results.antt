@@ -46,7 +46,8 @@ abbrev pub composite_weight : Option (List Datum) → ℕ
 composite_weight None = 0
 composite_weight (Some ds) = min (1 + data_weight (data_of ds)) (2 ^ 64 - 1)
 
--- the two topmost slots were these places; they and the slot below them gave way to that slot's part between the places, which weighs so much
+-- the two topmost slots were these places; they and the slot below them gave way to that slot's part between the
+-- places, which weighs so much
 pub record IsCut (from to : ℤ) (weight : ℕ) (old new : List Slot) : Type 0 where
   pub base : Slot
   pub below : List Slot

@@ -5,7 +5,7 @@ use Rattle.sz_value.specs.Maps.{value_at, with_pair}
 use Rattle.sz_instr.specs.declared.step.Step.{Step}
 use Rattle.sz_world_rules.specs.Slots.{Slot}
 use Rattle.sz_world_rules.specs.Stores.{ways_of, with_part, replaced}
-use Rattle.sz_machine_rules.specs.Rows.{step_of}
+use Rattle.sz_instr.specs.Rows.{step_of}
 
 -- what a slot becomes with a new value where the steps with these indexes lead, if they lead somewhere
 abbrev pub replaced_by : List Step → List Datum → Datum → Slot → Option Datum
@@ -17,7 +17,8 @@ part_replaced parts n steps indexes new = with_part parts n (replaced_by steps i
 
 -- the pairs with such a change to the value at a key
 abbrev pub pair_replaced : List (Datum × Datum) → Datum → List Step → List Datum → Datum → Option (List (Datum × Datum))
-pair_replaced pairs key steps indexes new = option_map (λ d. with_pair key d pairs) (replaced_by steps indexes new (value_at key pairs))
+pair_replaced pairs key steps indexes new =
+    option_map (λ d. with_pair key d pairs) (replaced_by steps indexes new (value_at key pairs))
 
 -- the slot of a value
 abbrev pub defined : Datum → Slot

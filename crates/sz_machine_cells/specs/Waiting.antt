@@ -2,7 +2,7 @@
 use Rattle.std.specs.Prelude.{ℕ, ◌≤◌, List, [], ◌∷◌, length, take, drop, reverse}
 use Rattle.sz_value.specs.Data.{Datum}
 use Rattle.sz_world_rules.specs.Slots.{Slot}
-use Rattle.sz_machine_rules.specs.States.{Caller}
+use Rattle.sz_instr.specs.States.{Caller}
 use Rattle.sz_machine_cells.specs.Calls.{Open}
 use Rattle.sz_machine_cells.specs.declared.calls.Waiting.{Waiting}
 
@@ -18,8 +18,8 @@ abbrev pub AreWithin : List Waiting → ℕ → ℕ → Type 0
 AreWithin [] cells lists = Unit {0}
 AreWithin (w ∷ ws) cells lists = (w.locals ≤ cells) × (w.lists ≤ lists) × AreWithin ws w.locals w.lists
 
--- what contracts see of the open calls: of these cells and candidate lists the routine that runs has those from these places on, and
--- the routines that wait, the innermost last, have the others
+-- what contracts see of the open calls: of these cells and candidate lists the routine that runs has those from these
+-- places on, and the routines that wait, the innermost last, have the others
 abbrev pub open_calls : List Waiting → List Slot → List (List Datum) → ℕ → ℕ → Open
 open_calls waiting cells lists cells_from lists_from = record {
   locals = drop cells_from cells;

@@ -3,7 +3,7 @@ ghost use Rattle.std.specs.Prelude.{◌≡◌, ◌<◌, ◌≤◌, [], ◌∷◌
 ghost use Rattle.std.specs.Prelude.{◌++◌, ◌-◌, not};
 ghost use Rattle.sz_value.specs.Data.{int};
 ghost use Rattle.sz_world_rules.specs.Slots.{undefined_slots};
-ghost use Rattle.sz_machine_rules.specs.States.{popped};
+ghost use Rattle.sz_instr.specs.States.{popped};
 ghost use Rattle.sz_machine_cells.specs.Calls.{is_used_up, after_next, caller};
 
 use crate::candidates::Candidates;

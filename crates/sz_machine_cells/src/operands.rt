@@ -5,7 +5,7 @@ ghost use Rattle.std.specs.Str.{is_utf8};
 ghost use Rattle.sz_value.specs.Data.{bytes, int, str};
 ghost use Rattle.sz_value.specs.Seen.{seen};
 ghost use Rattle.sz_world_rules.specs.Slots.{all_defined};
-ghost use Rattle.sz_machine_rules.specs.States.{popped};
+ghost use Rattle.sz_instr.specs.States.{popped};
 ghost use Rattle.sz_world_rules.specs.Emits.{weight_if_all};
 ghost use Rattle.sz_world_rules.specs.Operations.{map_of};
 ghost use Rattle.sz_world_rules.specs.Ticks.{result_weight};

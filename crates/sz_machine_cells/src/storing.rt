@@ -4,7 +4,7 @@ ghost use Rattle.sz_value.specs.Data.{Datum, data_of, entries_of, array, mapping
 ghost use Rattle.sz_value.specs.Maps.{value_at, with_pair};
 ghost use Rattle.sz_value.specs.Seen.{seen};
 ghost use Rattle.sz_world_rules.specs.Stores.{to_element, to_part, with_change};
-ghost use Rattle.sz_machine_rules.specs.Rows.{indexes_in};
+ghost use Rattle.sz_instr.specs.Rows.{indexes_in};
 ghost use Rattle.sz_machine_cells.specs.Storing.{replaced_by, part_replaced, pair_replaced, defined, told};
 
 use crate::cell::{Cell, Form};

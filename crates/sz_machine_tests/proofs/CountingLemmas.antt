@@ -6,7 +6,7 @@ use Rattle.sz_tabs.specs.Data.{EmitDatum}
 use Rattle.sz_instr.specs.WellFormed.{is_well_formed, most_locals}
 use Rattle.sz_instr.specs.declared.code.Code.{Code}
 use Rattle.sz_world_rules.specs.World.{World, Done}
-use Rattle.sz_machine_rules.specs.States.{Halts}
+use Rattle.sz_instr.specs.States.{Halts}
 use Rattle.sz_machine.specs.Ends.{RunEnds}
 use Rattle.sz_machine_tests.specs.Counting.{counting}
 
@@ -78,7 +78,14 @@ counting_ends input = record {
                                     ((Shape.int, Shape.int, Shape.int, refl, refl, refl), refl),
                                     (
                                       _,
-                                      ((omega arith, (omega arith, (Shape.int, Shape.int, [], (refl, refl), tt, tt, tt)), (refl, refl, refl)), refl),
+                                      (
+                                        (
+                                          omega arith,
+                                          (omega arith, (Shape.int, Shape.int, [], (refl, refl), tt, tt, tt)),
+                                          (refl, refl, refl),
+                                        ),
+                                        refl,
+                                      ),
                                       (
                                         _,
                                         (tt, refl),

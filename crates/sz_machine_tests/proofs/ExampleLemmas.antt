@@ -4,7 +4,7 @@ use Rattle.sz_value.specs.Data.{int}
 use Rattle.sz_instr.specs.WellFormed.{is_well_formed, most_locals}
 use Rattle.sz_instr.specs.declared.code.Code.{Code}
 use Rattle.sz_world_rules.specs.World.{World, Done}
-use Rattle.sz_machine_rules.specs.States.{Halts}
+use Rattle.sz_instr.specs.States.{Halts}
 use Rattle.sz_machine.specs.Ends.{RunEnds, StaticsRunEnds}
 use Rattle.sz_machine_tests.specs.Example.{example}
 
@@ -24,7 +24,10 @@ static_ends = record {
   outcome = Done (Some (int (pos 5)) ∷ []);
   ends = (
     Halts none_left (Some (int (pos 5)) ∷ []),
-    record { steps = 3; runs = (_, ((omega arith), refl), (_, ((omega arith, tt, refl), refl), (_, (tt, refl), refl))) },
+    record {
+      steps = 3;
+      runs = (_, ((omega arith), refl), (_, ((omega arith, tt, refl), refl), (_, (tt, refl), refl)));
+    },
     refl,
   );
 }
@@ -37,8 +40,14 @@ record_ends : (input : List ℕ) → RunEnds example input (Some (int (pos 5)) �
 record_ends input = record {
   outcome = Done (record { table = 0; indexes = []; value = int (pos 5); weight = None } ∷ []);
   ends = record {
-    end = Halts (record { left = 0; emits = record { table = 0; indexes = []; value = int (pos 5); weight = None } ∷ [] }) (Some (int (pos 5)) ∷ []);
-    comes = record { steps = 3; runs = (_, ((omega arith), refl), (_, ((omega arith, (tt, refl, tt), tt), refl), (_, (tt, refl), refl))) };
+    end = Halts (record {
+      left = 0;
+      emits = record { table = 0; indexes = []; value = int (pos 5); weight = None } ∷ [];
+    }) (Some (int (pos 5)) ∷ []);
+    comes = record {
+      steps = 3;
+      runs = (_, ((omega arith), refl), (_, ((omega arith, (tt, refl, tt), tt), refl), (_, (tt, refl), refl)));
+    };
     is = refl;
   };
 }

@@ -5,7 +5,7 @@ use Rattle.sz_value.specs.Data.{int}
 use Rattle.sz_instr.specs.WellFormed.{is_well_formed, most_locals}
 use Rattle.sz_instr.specs.declared.code.Code.{Code}
 use Rattle.sz_world_rules.specs.World.{World, Done}
-use Rattle.sz_machine_rules.specs.States.{Halts}
+use Rattle.sz_instr.specs.States.{Halts}
 use Rattle.sz_machine.specs.Ends.{RunEnds}
 use Rattle.sz_machine_tests.specs.Sharing.{sharing}
 
@@ -42,13 +42,27 @@ sharing_ends input = record {
           ((omega arith), refl),
           (
             _,
-            ((omega arith, (omega arith, (Shape.array Shape.int, Shape.array Shape.int, [], (refl, refl), tt, tt, refl)), tt), refl),
+            (
+              (
+                omega arith,
+                (omega arith, (Shape.array Shape.int, Shape.array Shape.int, [], (refl, refl), tt, tt, refl)),
+                tt,
+              ),
+              refl,
+            ),
             (
               _,
               ((omega arith), refl),
               (
                 _,
-                ((omega arith, (omega arith, (Shape.array Shape.int, Shape.array Shape.int, [], (refl, refl), tt, tt, refl)), tt), refl),
+                (
+                  (
+                    omega arith,
+                    (omega arith, (Shape.array Shape.int, Shape.array Shape.int, [], (refl, refl), tt, tt, refl)),
+                    tt,
+                  ),
+                  refl,
+                ),
                 (
                   _,
                   ((omega arith), refl),
@@ -57,7 +71,25 @@ sharing_ends input = record {
                     ((omega arith), refl),
                     (
                       _,
-                      ((omega arith, (omega arith, (Shape.array Shape.int, Shape.int, (Shape.int ∷ []), (refl, (refl, refl)), refl, (refl, tt), refl)), tt), refl),
+                      (
+                        (
+                          omega arith,
+                          (
+                            omega arith,
+                            (
+                              Shape.array Shape.int,
+                              Shape.int,
+                              (Shape.int ∷ []),
+                              (refl, (refl, refl)),
+                              refl,
+                              (refl, tt),
+                              refl,
+                            ),
+                          ),
+                          tt,
+                        ),
+                        refl,
+                      ),
                       (
                         _,
                         ((omega arith), refl),

@@ -1,4 +1,5 @@
--- Code of a record alone that counts lines: an emit, a value that is discarded, a test and a store, each of a quotient by 0.
+-- Code of a record alone that counts lines: an emit, a value that is discarded, a test and a store, each of a
+-- quotient by 0.
 use Rattle.std.specs.Prelude.{ℕ, List, [], ◌∷◌, ◌++◌, false, pos, codes, Some}
 use Rattle.sz_types.specs.declared.operator.BinOp.TheVariants.{Div}
 use Rattle.sz_types.specs.Data.{Shape}

@@ -1,4 +1,5 @@
--- Code of a record alone: two locals hold one array, and an element of the first is changed; then two operators on whole numbers.
+-- Code of a record alone: two locals hold one array, and an element of the first is changed; then two operators on
+-- whole numbers.
 use Rattle.std.specs.Prelude.{List, [], ◌∷◌, ◌++◌, false, pos, codes, None}
 use Rattle.sz_types.specs.declared.operator.BinOp.TheVariants.{Rem, Shl}
 use Rattle.sz_value.specs.Data.{Datum}

@@ -35,7 +35,8 @@ Pays w (Stops fault) = Unit {0}
 record Paying {X : Type 0} (doing : Doing X) : Type 0 where
   pays : (w : World) → Pays w (doing w)
 
-then_more : {X Y : Type 0} (w : World) (r : Given X) (second : X → Doing Y) → Pays w r → ((x : X) → Paying (second x)) → Pays w (and_then r second)
+then_more : {X Y : Type 0} (w : World) (r : Given X) (second : X → Doing Y) → Pays w r → ((x : X) → Paying (second x))
+    → Pays w (and_then r second)
 then_more w (Stops fault) second h k = tt
 then_more {X} {Y} w (Gives x after) second h k = both (second x after) ((k x).pays after)
   where
@@ -44,7 +45,8 @@ then_more {X} {Y} w (Gives x after) second h k = both (second x after) ((k x).pa
     both (Gives y last) m = omega (arith, h, m)
 
 -- one thing after the other
-then_pays : {X Y : Type 0} (first : Doing X) (second : X → Doing Y) → Paying first → ((x : X) → Paying (second x)) → Paying (first >>= second)
+then_pays : {X Y : Type 0} (first : Doing X) (second : X → Doing Y) → Paying first → ((x : X) → Paying (second x))
+    → Paying (first >>= second)
 then_pays first second h k = record { pays = λ w. then_more w (first w) second (h.pays w) k }
 
 given : {X : Type 0} (x : X) → Paying (give x)
@@ -58,7 +60,8 @@ left_after : (n : ℕ) (place : Place) (w : World) → Pays w (pay n place w)
 left_after zero place w = omega arith
 left_after (suc n) place w = by (nat_lt n w.left) refl
   where
-    by : (b : Bool) → nat_lt n w.left ≡ b → Pays w (paid place (if b then Some (record w { left = w.left - suc n }) else None))
+    by : (b : Bool) → nat_lt n w.left ≡ b
+        → Pays w (paid place (if b then Some (record w { left = w.left - suc n }) else None))
     by true e = omega arith
     by false e = tt
 
@@ -98,10 +101,12 @@ not_more {X} doing h = record { owes = λ w. by w (doing w) (h.pays w) }
     by w (Gives x after) m = omega (arith, m)
 
 -- one thing after the other, of which the second has a tick to spare
-later_takes : {X Y : Type 0} (first : Doing X) (second : X → Doing Y) → Paying first → ((x : X) → Taking (second x)) → Taking (first >>= second)
+later_takes : {X Y : Type 0} (first : Doing X) (second : X → Doing Y) → Paying first → ((x : X) → Taking (second x))
+    → Taking (first >>= second)
 later_takes {X} {Y} first second h k = record { takes = λ w. by w (first w) (h.pays w) }
   where
-    with_both : (w after : World) (r : Given Y) → length after.emits + after.left ≤ length w.emits + w.left → Takes after r → Takes w r
+    with_both : (w after : World) (r : Given Y) → length after.emits + after.left ≤ length w.emits + w.left
+        → Takes after r → Takes w r
     with_both w after (Stops fault) m n = tt
     with_both w after (Gives y last) m n = omega (arith, m, n)
 
@@ -110,10 +115,12 @@ later_takes {X} {Y} first second h k = record { takes = λ w. by w (first w) (h.
     by w (Gives x after) m = with_both w after (second x after) m ((k x).takes after)
 
 -- one thing after the other, of which the first has a tick to spare
-first_takes : {X Y : Type 0} (first : Doing X) (second : X → Doing Y) → Taking first → ((x : X) → Paying (second x)) → Taking (first >>= second)
+first_takes : {X Y : Type 0} (first : Doing X) (second : X → Doing Y) → Taking first → ((x : X) → Paying (second x))
+    → Taking (first >>= second)
 first_takes {X} {Y} first second h k = record { takes = λ w. by w (first w) (h.takes w) }
   where
-    with_both : (w after : World) (r : Given Y) → suc (length after.emits + after.left) ≤ length w.emits + w.left → Pays after r → Takes w r
+    with_both : (w after : World) (r : Given Y) → suc (length after.emits + after.left) ≤ length w.emits + w.left
+        → Pays after r → Takes w r
     with_both w after (Stops fault) m n = tt
     with_both w after (Gives y last) m n = omega (arith, m, n)
 
@@ -122,10 +129,12 @@ first_takes {X} {Y} first second h k = record { takes = λ w. by w (first w) (h.
     by w (Gives x after) m = with_both w after (second x after) m ((k x).pays after)
 
 -- one thing after the other, of which the first has the tick that the second owes
-settled : {X Y : Type 0} (first : Doing X) (second : X → Doing Y) → Taking first → ((x : X) → Owing (second x)) → Paying (first >>= second)
+settled : {X Y : Type 0} (first : Doing X) (second : X → Doing Y) → Taking first → ((x : X) → Owing (second x))
+    → Paying (first >>= second)
 settled {X} {Y} first second h k = record { pays = λ w. by w (first w) (h.takes w) }
   where
-    with_both : (w after : World) (r : Given Y) → suc (length after.emits + after.left) ≤ length w.emits + w.left → Owes after r → Pays w r
+    with_both : (w after : World) (r : Given Y) → suc (length after.emits + after.left) ≤ length w.emits + w.left
+        → Owes after r → Pays w r
     with_both w after (Stops fault) m n = tt
     with_both w after (Gives y last) m n = omega (arith, m, n)
 
@@ -137,7 +146,8 @@ settled {X} {Y} first second h k = record { pays = λ w. by w (first w) (h.takes
 taken_after : (n : ℕ) (place : Place) (w : World) → Takes w (pay (suc n) place w)
 taken_after n place w = by (nat_lt n w.left) refl
   where
-    by : (b : Bool) → nat_lt n w.left ≡ b → Takes w (paid place (if b then Some (record w { left = w.left - suc n }) else None))
+    by : (b : Bool) → nat_lt n w.left ≡ b
+        → Takes w (paid place (if b then Some (record w { left = w.left - suc n }) else None))
     by true e = let less : n < w.left = grind (arith, nat_tests) in omega (arith, less)
     by false e = tt
 
@@ -154,7 +164,8 @@ result place added x =
 abbrev CallsPay : Setting → Type 0
 CallsPay s = (f : ℕ) (place : Place) (arguments : List Datum) → Paying (s.calls f place arguments)
 
-call_pays : (s : Setting) → CallsPay s → (f : ℕ) (place : Place) (arguments : Option (List Datum)) → Paying (called s.calls f place arguments)
+call_pays : (s : Setting) → CallsPay s → (f : ℕ) (place : Place) (arguments : Option (List Datum))
+    → Paying (called s.calls f place arguments)
 call_pays s calls f place None = given {X = Slot} None
 call_pays s calls f place (Some arguments) = calls f place arguments
 
@@ -196,44 +207,60 @@ module _ (s : Setting) (calls : CallsPay s) (locals : List Slot) where
     form_takes place t (static n) = result place no_weight (slot_at s.statics n)
     form_takes place t input = result place no_weight s.input
     form_takes place t (call f es) =
-        later_takes (eval_all s locals es) _ (all_pay es) (λ xs. first_takes (pay 1 place) _ (tick place) (λ _. call_pays s calls f place (all_defined xs)))
-    form_takes place t (builtin b es) = later_takes (eval_all s locals es) _ (all_pay es) (λ xs. result place (builtin_weight b) (applied b xs))
-    form_takes place t (def e) = later_takes (eval s locals e) _ (eval_pays e) (λ x. result place no_weight (definedness x))
-    form_takes place t (convert e) = later_takes (eval s locals e) _ (eval_pays e) (λ x. result place (conversion_weight t x) (converted t x))
-    form_takes place t (array es) = later_takes (eval_all s locals es) _ (all_pay es) (λ xs. result place result_weight (array_of xs))
-    form_takes place t (tuple es) = later_takes (eval_all s locals es) _ (all_pay es) (λ xs. result place result_weight (tuple_of xs))
-    form_takes place t (mapping ps) = later_takes (eval_pairings s locals ps) _ (pairings_pay ps) (λ xs. result place result_weight (map_of xs))
+        later_takes (eval_all s locals es) _ (all_pay es)
+        (λ xs. first_takes (pay 1 place) _ (tick place) (λ _. call_pays s calls f place (all_defined xs)))
+    form_takes place t (builtin b es) =
+        later_takes (eval_all s locals es) _ (all_pay es) (λ xs. result place (builtin_weight b) (applied b xs))
+    form_takes place t (def e) =
+        later_takes (eval s locals e) _ (eval_pays e) (λ x. result place no_weight (definedness x))
+    form_takes place t (convert e) =
+        later_takes (eval s locals e) _ (eval_pays e) (λ x. result place (conversion_weight t x) (converted t x))
+    form_takes place t (array es) =
+        later_takes (eval_all s locals es) _ (all_pay es) (λ xs. result place result_weight (array_of xs))
+    form_takes place t (tuple es) =
+        later_takes (eval_all s locals es) _ (all_pay es) (λ xs. result place result_weight (tuple_of xs))
+    form_takes place t (mapping ps) =
+        later_takes (eval_pairings s locals ps) _ (pairings_pay ps) (λ xs. result place result_weight (map_of xs))
     form_takes place t (index e i) =
-        later_takes (eval s locals e) _ (eval_pays e) (λ x. later_takes (eval s locals i) _ (eval_pays i) (λ y. result place no_weight (element_of x y)))
+        later_takes (eval s locals e) _ (eval_pays e)
+        (λ x. later_takes (eval s locals i) _ (eval_pays i) (λ y. result place no_weight (element_of x y)))
     form_takes place t (slice e i j) =
         later_takes (eval s locals e) _ (eval_pays e)
-        (λ x. later_takes (eval s locals i) _ (eval_pays i) (λ y. later_takes (eval s locals j) _ (eval_pays j) (λ z. result place result_weight (slice_of x y z))))
-    form_takes place t (field e n) = later_takes (eval s locals e) _ (eval_pays e) (λ x. result place no_weight (part_of n x))
-    form_takes place t (unary o e) = later_takes (eval s locals e) _ (eval_pays e) (λ x. result place no_weight (unary_of o x))
+        (λ x. later_takes (eval s locals i) _ (eval_pays i)
+        (λ y. later_takes (eval s locals j) _ (eval_pays j) (λ z. result place result_weight (slice_of x y z))))
+    form_takes place t (field e n) =
+        later_takes (eval s locals e) _ (eval_pays e) (λ x. result place no_weight (part_of n x))
+    form_takes place t (unary o e) =
+        later_takes (eval s locals e) _ (eval_pays e) (λ x. result place no_weight (unary_of o x))
     form_takes place t (binary o a b) =
-        later_takes (eval s locals a) _ (eval_pays a) (λ x. later_takes (eval s locals b) _ (eval_pays b) (λ y. result place (binary_weight o) (binary_of o x y)))
+        later_takes (eval s locals a) _ (eval_pays a)
+        (λ x. later_takes (eval s locals b) _ (eval_pays b) (λ y. result place (binary_weight o) (binary_of o x y)))
     form_takes place t (both a b) =
         later_takes (eval s locals a) _ (eval_pays a)
         (λ x. later_takes (if_true x (eval s locals b)) _ (true_pays x _ (eval_pays b)) (λ y. result place no_weight y))
     form_takes place t (either a b) =
         later_takes (eval s locals a) _ (eval_pays a)
-        (λ x. later_takes (if_false x (eval s locals b)) _ (false_pays x _ (eval_pays b)) (λ y. result place no_weight y))
+        (λ x. later_takes (if_false x (eval s locals b)) _ (false_pays x _ (eval_pays b))
+        (λ y. result place no_weight y))
 
     all_pay : (es : Nodes) → Paying (eval_all s locals es)
     all_pay no_nodes = given []
     all_pay (with_node e es) =
-        then_pays (eval s locals e) _ (eval_pays e) (λ x. then_pays (eval_all s locals es) _ (all_pay es) (λ xs. given (x ∷ xs)))
+        then_pays (eval s locals e) _ (eval_pays e)
+        (λ x. then_pays (eval_all s locals es) _ (all_pay es) (λ xs. given (x ∷ xs)))
 
     pairings_pay : (ps : Pairings) → Paying (eval_pairings s locals ps)
     pairings_pay no_pairings = given []
     pairings_pay (with_pairing k v ps) =
         then_pays (eval s locals k) _ (eval_pays k)
-        (λ x. then_pays (eval s locals v) _ (eval_pays v) (λ y. then_pays (eval_pairings s locals ps) _ (pairings_pay ps) (λ xs. given (x ∷ y ∷ xs))))
+        (λ x. then_pays (eval s locals v) _ (eval_pays v)
+        (λ y. then_pays (eval_pairings s locals ps) _ (pairings_pay ps) (λ xs. given (x ∷ y ∷ xs))))
 
   indexes_pay : (steps : List Step) → Paying (eval_indexes s locals steps)
   indexes_pay [] = given []
   indexes_pay (at_index e ∷ steps) =
-      then_pays (eval s locals e) _ (eval_pays e) (λ x. then_pays (eval_indexes s locals steps) _ (indexes_pay steps) (λ xs. given (x ∷ xs)))
+      then_pays (eval s locals e) _ (eval_pays e)
+      (λ x. then_pays (eval_indexes s locals steps) _ (indexes_pay steps) (λ xs. given (x ∷ xs)))
   indexes_pay (at_field n ∷ steps) = indexes_pay steps
 
   optional_pays : (e : Option Node) → Paying (eval_if_some s locals e)
@@ -259,9 +286,12 @@ then_loop_pays (Returns x) next h = given (Returns x)
 -- a line that is counted is owed a tick
 passed_owes : (counting : Option ℕ) (place : Place) (locals : List Slot) → Owing (passed_over counting place locals)
 passed_owes None place locals = record { owes = λ w. tt }
-passed_owes (Some table) place locals = record { owes = λ w. omega (arith, length-append w.emits (line_emit table place ∷ [])) }
+passed_owes (Some table) place locals = record {
+  owes = λ w. omega (arith, length-append w.emits (line_emit table place ∷ []));
+}
 
-chosen_owes : (x : Slot) (first second unknown : Doing Ending) → Paying first → Paying second → Owing unknown → Owing (chosen x first second unknown)
+chosen_owes : (x : Slot) (first second unknown : Doing Ending) → Paying first → Paying second → Owing unknown
+    → Owing (chosen x first second unknown)
 chosen_owes None first second unknown h k u = u
 chosen_owes (Some (truth true)) first second unknown h k u = not_more first h
 chosen_owes (Some (truth false)) first second unknown h k u = not_more second k
@@ -274,12 +304,13 @@ chosen_owes (Some (datum.tuple ds)) first second unknown h k u = not_more second
 chosen_owes (Some (datum.mapping es)) first second unknown h k u = not_more second k
 
 -- a test's tick, and what follows by the test
-tested_pays : (counting : Option ℕ) (place : Place) (locals : List Slot) (x : Slot) (first second : Doing Ending) → Paying first → Paying second
-    → Paying (pay 1 place >> chosen x first second (passed_over counting place locals))
+tested_pays : (counting : Option ℕ) (place : Place) (locals : List Slot) (x : Slot) (first second : Doing Ending)
+    → Paying first → Paying second → Paying (pay 1 place >> chosen x first second (passed_over counting place locals))
 tested_pays counting place locals x first second h k =
     settled (pay 1 place) _ (tick place) (λ _. chosen_owes x first second _ h k (passed_owes counting place locals))
 
-turns_pay : (counting : Option ℕ) (place : Place) (test : List Slot → Doing Slot) (between body : Running) → ((locals : List Slot) → Paying (test locals))
+turns_pay : (counting : Option ℕ) (place : Place) (test : List Slot → Doing Slot) (between body : Running)
+    → ((locals : List Slot) → Paying (test locals))
     → RunPays between → RunPays body → (n : ℕ) → RunPays (turns counting place test between body n)
 turns_pay counting place test between body t b d zero locals = failed _ place
 turns_pay counting place test between body t b d (suc n) locals =
@@ -306,7 +337,8 @@ turns_after_pay counting place body test d t (suc n) locals =
     (then_pays (pay 1 place) (λ _. next after) (ticks 1 place) (λ _. again after)) (given (Normal after)))))
 
 -- an emit has a tick of its own
-emits_pay : (counting : Option ℕ) (place : Place) (table : ℕ) (parts : EmitParts) → RunPays (emits counting place table parts)
+emits_pay : (counting : Option ℕ) (place : Place) (table : ℕ) (parts : EmitParts)
+    → RunPays (emits counting place table parts)
 emits_pay counting place table parts locals = record { pays = λ w. by w (spend (1 + emit_weight parts) w) refl }
   where
     added : (e : Option EmitDatum) (after : World) → length (with_emit e after).emits ≤ suc (length after.emits)
@@ -317,31 +349,38 @@ emits_pay counting place table parts locals = record { pays = λ w. by w (spend 
     same_left None after = refl
     same_left (Some e) after = refl
 
-    taken : (n : ℕ) (w after : World) (b : Bool) → nat_lt n w.left ≡ b → (if b then Some (record w { left = w.left - suc n }) else None) ≡ Some after
+    taken : (n : ℕ) (w after : World) (b : Bool) → nat_lt n w.left ≡ b
+        → (if b then Some (record w { left = w.left - suc n }) else None) ≡ Some after
         → suc (length after.emits + after.left) ≤ length w.emits + w.left
     taken n w after true t e =
         let less : n < w.left = grind (arith, nat_tests) in
         let same : Some (record w { left = w.left - suc n }) ≡ Some after = e in
         let one : (record w { left = w.left - suc n }) ≡ after = cc in
         let left : w.left - suc n ≡ after.left = ap (λ (v : World). v.left) one in
-        let emits : length w.emits ≡ length after.emits = ap (λ (v : World). length v.emits) one in omega (arith, less, left, emits)
+        let emits : length w.emits ≡ length after.emits = ap (λ (v : World). length v.emits) one in
+        omega (arith, less, left, emits)
     taken n w after false t e = absurd (cc)
 
     by : (w : World) (m : Option World) → spend (1 + emit_weight parts) w ≡ m
-        → Pays w (and_then (paid place m) (λ _ after. Gives (Normal locals) (with_emit (emit_or_line (emit_of table parts) counting place) after)))
+        → Pays w (and_then (paid place m)
+        (λ _ after. Gives (Normal locals) (with_emit (emit_or_line (emit_of table parts) counting place) after)))
     by w None e = tt
     by w (Some after) e =
         let more : 1 + emit_weight parts ≡ suc (emit_weight parts) = omega arith in
-        let less = taken (emit_weight parts) w after (nat_lt (emit_weight parts) w.left) refl (subst (λ n. spend n w ≡ Some after) more e) in
+        let less = taken (emit_weight parts) w after (nat_lt (emit_weight parts) w.left) refl
+        (subst (λ n. spend n w ≡ Some after) more e) in
         let few = added (emit_or_line (emit_of table parts) counting place) after in
         let left = same_left (emit_or_line (emit_of table parts) counting place) after in omega (arith, less, few, left)
 
-assigned_owes : (counting : Option ℕ) (stored : Stored) (place : Place) (n : ℕ) (locals : List Slot) → Owing (assigned counting stored place n locals)
-assigned_owes counting (Holds d) place n locals = not_more (give (Normal (with_local n (Some d) locals))) (given (Normal (with_local n (Some d) locals)))
+assigned_owes : (counting : Option ℕ) (stored : Stored) (place : Place) (n : ℕ) (locals : List Slot)
+    → Owing (assigned counting stored place n locals)
+assigned_owes counting (Holds d) place n locals =
+    not_more (give (Normal (with_local n (Some d) locals))) (given (Normal (with_local n (Some d) locals)))
 assigned_owes counting Undefined place n locals = passed_owes counting place locals
 assigned_owes counting Outside place n locals = record { owes = λ w. tt }
 
-defined_owes : (x : Slot) (next unknown : Doing Ending) → Paying next → Owing unknown → Owing (if_defined x next unknown)
+defined_owes : (x : Slot) (next unknown : Doing Ending) → Paying next → Owing unknown
+    → Owing (if_defined x next unknown)
 defined_owes None next unknown h u = u
 defined_owes (Some d) next unknown h u = not_more next h
 
@@ -363,7 +402,8 @@ and_also_pays (Succeeds locals) next h = h locals
 and_also_pays (Misses locals) next h = given (Misses locals)
 and_also_pays (Leaves x) next h = given (Leaves x)
 
-and_each_pays : (finding : Finding) (found : Bool) (next : Bool → Searching) → ((b : Bool) → SearchPays (next b)) → Paying (and_each finding found next)
+and_each_pays : (finding : Finding) (found : Bool) (next : Bool → Searching) → ((b : Bool) → SearchPays (next b))
+    → Paying (and_each finding found next)
 and_each_pays (Succeeds locals) found next h = h true locals
 and_each_pays (Misses locals) found next h = h found locals
 and_each_pays (Leaves x) found next h = given (Leaves x)
@@ -384,7 +424,8 @@ met_pays (Some (datum.array ds)) first second h k = k
 met_pays (Some (datum.tuple ds)) first second h k = k
 met_pays (Some (datum.mapping es)) first second h k = k
 
-refuted_pays : (x : Slot) (first second : Doing Finding) → Paying first → Paying second → Paying (if_refuted x first second)
+refuted_pays : (x : Slot) (first second : Doing Finding) → Paying first → Paying second
+    → Paying (if_refuted x first second)
 refuted_pays None first second h k = k
 refuted_pays (Some (truth true)) first second h k = k
 refuted_pays (Some (truth false)) first second h k = h
@@ -407,28 +448,37 @@ abbrev BasesPay : List Variable → Type 0
 BasesPay [] = Unit {0}
 BasesPay (v ∷ vs) = ((locals : List Slot) → Paying (v.base locals)) × BasesPay vs
 
-module _ (place : Place) (condition : List Slot → Doing Slot) (body : Running) (c : (locals : List Slot) → Paying (condition locals)) (b : RunPays body) where
-  tried_pays : (n : ℕ) (d : Datum) (rest : Searching) → SearchPays rest → SearchPays (tried place condition body n d rest)
+module _ (place : Place) (condition : List Slot → Doing Slot) (body : Running)
+    (c : (locals : List Slot) → Paying (condition locals)) (b : RunPays body) where
+  tried_pays : (n : ℕ) (d : Datum) (rest : Searching) → SearchPays rest
+      → SearchPays (tried place condition body n d rest)
   tried_pays n d rest h locals = then_pays (pay 1 place) _ (ticks 1 place) (λ _. h _)
 
-  any_pays : (n : ℕ) (rest : Searching) → SearchPays rest → (cs : List Datum) → SearchPays (any_of place condition body n rest cs)
+  any_pays : (n : ℕ) (rest : Searching) → SearchPays rest → (cs : List Datum)
+      → SearchPays (any_of place condition body n rest cs)
   any_pays n rest h [] locals = given (Misses locals)
   any_pays n rest h (d ∷ ds) locals =
-      then_pays (tried place condition body n d rest locals) _ (tried_pays n d rest h locals) (λ f. or_else_pays f _ (any_pays n rest h ds))
+      then_pays (tried place condition body n d rest locals) _ (tried_pays n d rest h locals)
+      (λ f. or_else_pays f _ (any_pays n rest h ds))
 
-  each_pays : (n : ℕ) (rest : Searching) → SearchPays rest → (cs : List Datum) (found : Bool) → SearchPays (each_of place condition body n rest cs found)
+  each_pays : (n : ℕ) (rest : Searching) → SearchPays rest → (cs : List Datum) (found : Bool)
+      → SearchPays (each_of place condition body n rest cs found)
   each_pays n rest h [] found locals = found_one_pays found locals
   each_pays n rest h (d ∷ ds) found locals =
-      then_pays (tried place condition body n d rest locals) _ (tried_pays n d rest h locals) (λ f. and_each_pays f found _ (each_pays n rest h ds))
+      then_pays (tried place condition body n d rest locals) _ (tried_pays n d rest h locals)
+      (λ f. and_each_pays f found _ (each_pays n rest h ds))
 
-  all_pays : (n : ℕ) (rest : Searching) → SearchPays rest → (cs : List Datum) → SearchPays (all_of place condition body n rest cs)
+  all_pays : (n : ℕ) (rest : Searching) → SearchPays rest → (cs : List Datum)
+      → SearchPays (all_of place condition body n rest cs)
   all_pays n rest h [] locals = given (Succeeds locals)
   all_pays n rest h (d ∷ ds) locals =
-      then_pays (tried place condition body n d rest locals) _ (tried_pays n d rest h locals) (λ f. and_also_pays f _ (all_pays n rest h ds))
+      then_pays (tried place condition body n d rest locals) _ (tried_pays n d rest h locals)
+      (λ f. and_also_pays f _ (all_pays n rest h ds))
 
   holds_pays : (vs : List Variable) → BasesPay vs → SearchPays (holds place condition body vs)
   holds_pays [] h locals =
-      then_pays (condition locals) _ (c locals) (λ x. refuted_pays x _ _ (given (Misses locals)) (given (Succeeds locals)))
+      then_pays (condition locals) _ (c locals)
+      (λ x. refuted_pays x _ _ (given (Misses locals)) (given (Succeeds locals)))
   holds_pays (v ∷ vs) h locals =
       then_pays (v.base locals) _ (h.0 locals) (λ x. all_pays v.local _ (holds_pays vs h.1) _ locals)
 
@@ -443,13 +493,15 @@ module _ (place : Place) (condition : List Slot → Doing Slot) (body : Running)
   search_pays : (vs : List Variable) → BasesPay vs → SearchPays (search place condition body vs)
   search_pays [] h locals =
       then_pays (condition locals) _ (c locals)
-      (λ x. met_pays x _ _ (then_pays (body locals) _ (b locals) (λ ending. succeeded_pays ending)) (given (Misses locals)))
+      (λ x. met_pays x _ _ (then_pays (body locals) _ (b locals) (λ ending. succeeded_pays ending))
+      (given (Misses locals)))
   search_pays (v ∷ vs) h locals =
       then_pays (v.base locals) _ (h.0 locals)
       (λ x. by_pays v.quantity v.local _ _ _ (search_pays vs h.1) (holds_pays vs h.1) locals)
 
   when_pays : (vs : List Variable) → BasesPay vs → RunPays (exec_when place condition body vs)
-  when_pays vs h locals = then_pays (search place condition body vs locals) _ (search_pays vs h locals) (λ f. given (ending_of f))
+  when_pays vs h locals =
+      then_pays (search place condition body vs locals) _ (search_pays vs h locals) (λ f. given (ending_of f))
 
 module _ (s : Setting) (calls : CallsPay s) where
   bases_pay : (vs : List Quantified) → BasesPay (map (variable_of s) vs)
@@ -461,7 +513,8 @@ module _ (s : Setting) (calls : CallsPay s) where
     exec_pays (block ss) locals = all_run_pays ss locals
     exec_pays (clear n) locals = given _
     exec_pays (keep place n e) locals =
-        then_pays (eval s locals e) _ (eval_pays s calls locals e) (λ x. then_pays (pay 1 place) _ (ticks 1 place) (λ _. given _))
+        then_pays (eval s locals e) _ (eval_pays s calls locals e)
+        (λ x. then_pays (pay 1 place) _ (ticks 1 place) (λ _. given _))
     exec_pays (store place n steps e) locals =
         then_pays (eval_indexes s locals steps) _ (indexes_pay s calls locals steps)
         (λ xs. then_pays (eval s locals e) _ (eval_pays s calls locals e)
@@ -473,35 +526,51 @@ module _ (s : Setting) (calls : CallsPay s) where
         then_pays (eval s locals e) _ (eval_pays s calls locals e)
         (λ x. tested_pays s.counting place locals x _ _ (exec_pays first locals) (exec_pays second locals))
     exec_pays (while place e body) locals =
-        record { pays = λ w. (turns_pay s.counting place (λ l. eval s l e) idle (exec s body) (λ l. eval_pays s calls l e) (λ l. given (Normal l)) (exec_pays body) (suc w.left) locals).pays w }
+        record {
+          pays = λ w. (turns_pay s.counting place (λ l. eval s l e) idle (exec s body) (λ l. eval_pays s calls l e)
+              (λ l. given (Normal l)) (exec_pays body) (suc w.left) locals).pays w;
+        }
     exec_pays (do_while place body e) locals =
-        record { pays = λ w. (turns_after_pay s.counting place (exec s body) (λ l. eval s l e) (exec_pays body) (λ l. eval_pays s calls l e) (suc w.left) locals).pays w }
+        record {
+          pays = λ w. (turns_after_pay s.counting place (exec s body) (λ l. eval s l e) (exec_pays body)
+              (λ l. eval_pays s calls l e) (suc w.left) locals).pays w;
+        }
     exec_pays (for_loop place e between body) locals =
-        record { pays = λ w. (turns_pay s.counting place (test_of s e) (exec s between) (exec s body) (test_pays s calls e) (exec_pays between) (exec_pays body) (suc w.left) locals).pays w }
+        record {
+          pays = λ w. (turns_pay s.counting place (test_of s e) (exec s between) (exec s body) (test_pays s calls e)
+              (exec_pays between) (exec_pays body) (suc w.left) locals).pays w;
+        }
     exec_pays break locals = given _
     exec_pays continue locals = given _
     exec_pays (return_value place e) locals =
-        then_pays (eval s locals e) _ (eval_pays s calls locals e) (λ x. then_pays (pay 1 place) _ (ticks 1 place) (λ _. given _))
+        then_pays (eval s locals e) _ (eval_pays s calls locals e)
+        (λ x. then_pays (pay 1 place) _ (ticks 1 place) (λ _. given _))
     exec_pays (end_record place) locals = then_pays (pay 1 place) _ (ticks 1 place) (λ _. given _)
     exec_pays (emit place table es e weight) locals =
         then_pays (eval_all s locals es) _ (all_pay s calls locals es)
         (λ xs. then_pays (eval s locals e) _ (eval_pays s calls locals e)
-        (λ x. then_pays (eval_if_some s locals weight) _ (optional_pays s calls locals weight) (λ y. emits_pay s.counting place table (record { indexes = xs; value = x; weight = y }) locals)))
+        (λ x. then_pays (eval_if_some s locals weight) _ (optional_pays s calls locals weight)
+        (λ y. emits_pay s.counting place table (record { indexes = xs; value = x; weight = y }) locals)))
     exec_pays (when place vs c body) locals =
-        when_pays place (λ l. eval s l c) (exec s body) (λ l. eval_pays s calls l c) (exec_pays body) (map (variable_of s) vs) (bases_pay vs) locals
+        when_pays place (λ l. eval s l c) (exec s body) (λ l. eval_pays s calls l c) (exec_pays body)
+        (map (variable_of s) vs) (bases_pay vs) locals
 
     all_run_pays : (ss : Stms) → RunPays (exec_all s ss)
     all_run_pays no_stms locals = given _
     all_run_pays (with_stm first rest) locals =
-        then_pays (exec s first locals) _ (exec_pays first locals) (λ ending. then_run_pays ending _ (all_run_pays rest))
+        then_pays (exec s first locals) _ (exec_pays first locals)
+        (λ ending. then_run_pays ending _ (all_run_pays rest))
 
 module _ (functions : List Function) (counting : Option ℕ) (statics : List Slot) where
-  function_pays : (f : Option Function) (room : ℕ) → ((g : ℕ) (place : Place) (arguments : List Datum) → Paying (calls_at functions counting statics room g place arguments))
-      → (arguments : List Datum) → Paying (run_function functions counting f (calls_at functions counting statics room) statics arguments)
+  function_pays : (f : Option Function) (room : ℕ) → ((g : ℕ) (place : Place) (arguments : List Datum)
+      → Paying (calls_at functions counting statics room g place arguments))
+      → (arguments : List Datum)
+      → Paying (run_function functions counting f (calls_at functions counting statics room) statics arguments)
   function_pays None room calls arguments = given {X = Slot} None
   function_pays (Some f) room calls arguments = then_pays _ _ (all_run_pays _ calls f.body _) (λ ending. given _)
 
-  calls_pay : (room : ℕ) (f : ℕ) (place : Place) (arguments : List Datum) → Paying (calls_at functions counting statics room f place arguments)
+  calls_pay : (room : ℕ) (f : ℕ) (place : Place) (arguments : List Datum)
+      → Paying (calls_at functions counting statics room f place arguments)
   calls_pay zero f place arguments = failed _ place
   calls_pay (suc room) f place arguments = function_pays (slice_get functions f) room (calls_pay room) arguments
 
@@ -510,8 +579,8 @@ pub emits_are_paid : (program : Marked) (slots : List Slot) (budget : ℕ) (text
     → mean program slots budget text ≡ Done es → length es ≤ budget
 emits_are_paid program slots budget text es is =
     by (run_record program slots budget text)
-    ((all_run_pays _ (calls_pay (functions_of program.core.items) (counting_table program) slots most_open_calls) (body_of program.core) _).pays
-    (new_world budget)) is
+    ((all_run_pays _ (calls_pay (functions_of program.core.items) (counting_table program) slots most_open_calls)
+    (body_of program.core) _).pays (new_world budget)) is
   where
     same : (a b : List EmitDatum) → Done a ≡ Done b → a ≡ b
     same a b e = cc

@@ -1,4 +1,3 @@
 pub mod EmitCosts
-pub mod RecordLaws
 pub mod WorkedTrees
 mod WorkedExamples

@@ -9,7 +9,6 @@ use Rattle.sz_core.specs.Programs.{Core}
 use Rattle.sz_world_rules.specs.World.{Outcome, Done, Faulted, budget_passed, undefined_used, store_outside, calls_too_deep}
 use Rattle.sz_mean.specs.Marked.{marked}
 use Rattle.sz_mean.specs.Programs.{mean}
-use Rattle.sz_mean.specs.Records.{FaultedAt, mean_from}
 use Rattle.sz_mean.proofs.WorkedTrees.{at, number, emits_sum, joins_texts, counts_down, counts_up, emits_if, stores_outside, calls_on}
 use Rattle.sz_mean.proofs.WorkedTrees.{emits_without_weight, undefined_left, nothing, emits_place, emits_seven, searches}
 
@@ -85,7 +84,12 @@ ends_ignoring : Core → ℕ → List ℕ → Outcome (List EmitDatum)
 ends_ignoring core budget input = mean (marked core true) [] budget input
 
 line_counted : ℕ → ℕ → EmitDatum
-line_counted table row = record { table = table; indexes = Datum.int (pos row) ∷ []; value = Datum.int (pos 1); weight = None }
+line_counted table row = record {
+  table = table;
+  indexes = Datum.int (pos row) ∷ [];
+  value = Datum.int (pos 1);
+  weight = None;
+}
 
 ignored_test : ends_ignoring emits_if 7 [] ≡ Done (line_counted 1 3 ∷ [])
 unfolding ends_ignoring line_counted
@@ -108,10 +112,6 @@ ignored_outside : ends_ignoring stores_outside 8 [] ≡ fault store_outside (at 
 unfolding ends_ignoring fault
 ignored_outside = refl
 
--- a fault is a fault of all records
-second_faults : mean_from (marked emits_if false) [] 100 1 (codes "1" ∷ [] ∷ codes "1" ∷ []) ≡ FaultedAt 2 (record { kind = undefined_used; place = at 3 1 })
-second_faults = refl
-
 -- the budget is asked before where a store leads
 outside_enough : ends stores_outside 8 [] ≡ fault store_outside (at 2 1)
 unfolding ends fault
@@ -125,8 +125,8 @@ too_deep : ends calls_on (2 ^ 24) [] ≡ fault calls_too_deep (at 1 35)
 unfolding ends fault int_wrap
 too_deep = refl
 
--- the first candidate with which the condition is true is enough: seven ticks for the array, one for the base, six for a candidate
--- with its condition, and three for the emit
+-- the first candidate with which the condition is true is enough: seven ticks for the array, one for the base, six
+-- for a candidate with its condition, and three for the emit
 some_enough : ends (searches some (number (at 3 28) 3) emits_place) 17 [] ≡ Done (of_number 0 ∷ [])
 unfolding ends of_number int_wrap
 some_enough = refl

@@ -1,4 +1,5 @@
--- Small checked programs, written by hand, for the worked examples. Each place is a line and a column of the text above it.
+-- Small checked programs, written by hand, for the worked examples. Each place is a line and a column of the text
+-- above it.
 use Rattle.std.specs.Prelude.{ℕ, List, [], ◌∷◌, pos, false, None, Some, codes}
 use Rattle.sz_types.specs.Data.{Shape}
 use Rattle.sz_types.specs.declared.place.Place.{Place}
@@ -29,17 +30,26 @@ abbrev pub sum_table : Item
 sum_table = table (record { name = codes "c"; kind = Sum; limit = 0; indexes = []; element = Shape.int; weight = None })
 
 abbrev pub weighted_table : Item
-weighted_table = table (record { name = codes "c"; kind = Maximum; limit = 2; indexes = []; element = Shape.int; weight = Some Shape.int })
+weighted_table = table (record {
+  name = codes "c";
+  kind = Maximum;
+  limit = 2;
+  indexes = [];
+  element = Shape.int;
+  weight = Some Shape.int;
+})
 
 -- c: table sum of int;
 -- emit c <- 1 + 2;
 abbrev pub emits_sum : Core
-emits_sum = core_of (sum_table ∷ statement (emit (at 2 1) 0 no_nodes (operated (at 2 11) Shape.int Add (number (at 2 11) 1) (number (at 2 15) 2)) None) ∷ []) []
+emits_sum = core_of (sum_table ∷ statement (emit (at 2 1) 0 no_nodes
+    (operated (at 2 11) Shape.int Add (number (at 2 11) 1) (number (at 2 15) 2)) None) ∷ []) []
 
 -- s: string = "ab" + "c";
 abbrev pub joins_texts : Core
 joins_texts = core_of
-    (statement (keep (at 1 1) 0 (operated (at 1 13) Shape.str Add (text (at 1 13) (codes "ab")) (text (at 1 20) (codes "c")))) ∷ [])
+    (statement (keep (at 1 1) 0
+    (operated (at 1 13) Shape.str Add (text (at 1 13) (codes "ab")) (text (at 1 20) (codes "c")))) ∷ [])
     (Shape.str ∷ [])
 
 -- x: int = input;
@@ -51,9 +61,10 @@ number_of_record = keep (at 1 1) 0 (node (at 1 10) Shape.int (convert (node (at 
 abbrev pub counts_down : Core
 counts_down = core_of
     (statement number_of_record
-    ∷ statement (while (at 2 1) (operated (at 2 8) Shape.truth Greater (variable (at 2 8) Shape.int 0) (number (at 2 12) 0))
-    (store (at 2 15) 0 [] (operated (at 2 19) Shape.int Sub (variable (at 2 19) Shape.int 0) (number (at 2 23) 1)))) ∷ [])
-    (Shape.int ∷ [])
+    ∷ statement
+    (while (at 2 1) (operated (at 2 8) Shape.truth Greater (variable (at 2 8) Shape.int 0) (number (at 2 12) 0))
+    (store (at 2 15) 0 [] (operated (at 2 19) Shape.int Sub (variable (at 2 19) Shape.int 0) (number (at 2 23) 1))))
+    ∷ []) (Shape.int ∷ [])
 
 -- c: table sum of int;
 -- for (i: int = 0; i < 3; i++) emit c <- i;
@@ -61,7 +72,8 @@ abbrev pub counts_up : Core
 counts_up = core_of
     (sum_table
     ∷ statement (block (stms_of (keep (at 2 6) 0 (number (at 2 15) 0)
-    ∷ for_loop (at 2 1) (Some (operated (at 2 18) Shape.truth Less (variable (at 2 18) Shape.int 0) (number (at 2 22) 3)))
+    ∷ for_loop (at 2 1)
+    (Some (operated (at 2 18) Shape.truth Less (variable (at 2 18) Shape.int 0) (number (at 2 22) 3)))
     (store (at 2 25) 0 [] (operated (at 2 25) Shape.int Add (variable (at 2 25) Shape.int 0) (number (at 2 25) 1)))
     (emit (at 2 30) 0 no_nodes (variable (at 2 40) Shape.int 0) None) ∷ []))) ∷ [])
     (Shape.int ∷ [])
@@ -73,7 +85,8 @@ abbrev pub emits_if : Core
 emits_if = core_of
     (sum_table
     ∷ statement (keep (at 2 1) 0 (node (at 2 10) Shape.int (convert (node (at 2 10) Shape.bytes input))))
-    ∷ statement (branch (at 3 1) (operated (at 3 5) Shape.truth Greater (variable (at 3 5) Shape.int 0) (number (at 3 9) 0))
+    ∷ statement
+    (branch (at 3 1) (operated (at 3 5) Shape.truth Greater (variable (at 3 5) Shape.int 0) (number (at 3 9) 0))
     (emit (at 3 12) 0 no_nodes (number (at 3 22) 1) None) (block (stms_of []))) ∷ [])
     (Shape.int ∷ [])
 
@@ -81,7 +94,8 @@ emits_if = core_of
 -- a[1] = 5;
 abbrev pub stores_outside : Core
 stores_outside = core_of
-    (statement (keep (at 1 1) 0 (node (at 1 19) (Shape.array Shape.int) (array (with_node (number (at 1 20) 1) no_nodes))))
+    (statement
+    (keep (at 1 1) 0 (node (at 1 19) (Shape.array Shape.int) (array (with_node (number (at 1 20) 1) no_nodes))))
     ∷ statement (store (at 2 1) 0 (at_index (number (at 2 3) 1) ∷ []) (number (at 2 8) 5)) ∷ [])
     (Shape.array Shape.int ∷ [])
 
@@ -124,12 +138,14 @@ undefined_left = core_of
 
 -- a: array of int = {3, 5};
 abbrev pub two_numbers : Stm
-two_numbers = keep (at 2 1) 0 (node (at 2 19) (Shape.array Shape.int) (array (with_node (number (at 2 20) 3) (with_node (number (at 2 23) 5) no_nodes))))
+two_numbers = keep (at 2 1) 0 (node (at 2 19) (Shape.array Shape.int)
+    (array (with_node (number (at 2 20) 3) (with_node (number (at 2 23) 5) no_nodes))))
 
 -- a[i] == e
 abbrev pub element_is : Node → Node
 element_is e =
-    let element = node (at 3 20) Shape.int (index (variable (at 3 20) (Shape.array Shape.int) 0) (variable (at 3 22) Shape.int 1)) in
+    let element = node (at 3 20) Shape.int
+    (index (variable (at 3 20) (Shape.array Shape.int) 0) (variable (at 3 22) Shape.int 1)) in
     operated (at 3 20) Shape.truth Equal element e
 
 -- 3 / 0
@@ -150,6 +166,11 @@ emits_seven = emit (at 3 36) 0 no_nodes (number (at 3 46) 7) None
 abbrev pub searches : Quantity → Node → Stm → Core
 searches quantity e body = core_of
     (sum_table ∷ statement two_numbers
-    ∷ statement (when (at 3 1) (record { quantity = quantity; local = 1; base = variable (at 3 20) (Shape.array Shape.int) 0; slice = false } ∷ [])
+    ∷ statement (when (at 3 1) (record {
+      quantity = quantity;
+      local = 1;
+      base = variable (at 3 20) (Shape.array Shape.int) 0;
+      slice = false;
+    } ∷ [])
     (element_is e) body) ∷ [])
     (Shape.array Shape.int ∷ Shape.int ∷ [])

@@ -6,7 +6,8 @@ use Rattle.sz_world_rules.specs.World.{Gives, Doing, ◌>>=◌, ◌>>◌, give, 
 use Rattle.sz_world_rules.specs.Slots.{Slot}
 use Rattle.sz_world_rules.specs.Emits.{line_emit, with_emit}
 
--- how a statement ends: at its end, by `break` or by `continue`, each with the variables as they are then, or by `return`
+-- how a statement ends: at its end, by `break` or by `continue`, each with the variables as they are then, or by
+-- `return`
 pub data Ending : Type 0 where
   Normal : (locals : List Slot) → Ending
   Breaks : (locals : List Slot) → Ending
@@ -35,7 +36,8 @@ then_loop (Breaks locals) next = give (Normal locals)
 then_loop (Continues locals) next = next locals
 then_loop (Returns result) next = give (Returns result)
 
--- an undefined value was used: a fault, but where lines are counted, the statement is passed over and its line is counted
+-- an undefined value was used: a fault, but where lines are counted, the statement is passed over and its line is
+-- counted
 abbrev pub passed_over : Option ℕ → Place → Running
 passed_over None place locals = fails undefined_used place
 passed_over (Some table) place locals = λ w. Gives (Normal locals) (with_emit (Some (line_emit table place)) w)
@@ -46,8 +48,9 @@ chosen None first second unknown = unknown
 chosen (Some (truth true)) first second unknown = first
 chosen (Some _) first second unknown = second
 
--- a loop that is tested before each turn: a test, a turn, and what is done between turns. Each return to the test takes a
--- tick, so that there are fewer turns than one more than the ticks at the beginning, and the answer without turns never comes.
+-- a loop that is tested before each turn: a test, a turn, and what is done between turns. Each return to the test
+-- takes a tick, so that there are fewer turns than one more than the ticks at the beginning, and the answer without
+-- turns never comes.
 module _ (counting : Option ℕ) (place : Place) (test : List Slot → Doing Slot) (between body : Running) where
   abbrev pub turns : ℕ → Running
   turns zero locals = fails budget_passed place

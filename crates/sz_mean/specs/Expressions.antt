@@ -15,8 +15,8 @@ use Rattle.sz_world_rules.specs.Ticks.{no_weight, result_weight, binary_weight, 
 abbrev pub Calls : Type 0
 Calls = ℕ → Place → List Datum → Doing Slot
 
--- what stays fixed while statements run: what calls do, the statics, the record, and the table that counts the lines that are passed
--- over, if they are
+-- what stays fixed while statements run: what calls do, the statics, the record, and the table that counts the lines
+-- that are passed over, if they are
 pub record Setting : Type 0 where
   pub calls : Calls
   pub statics : List Slot

@@ -5,4 +5,3 @@ pub mod Endings
 pub mod Search
 pub mod Statements
 pub mod Programs
-pub mod Records

@@ -35,11 +35,17 @@ module _ (functions : List Function) (counting : Option ℕ) where
   -- what calls do where so many more can be open
   abbrev pub calls_at : List Slot → ℕ → Calls
   calls_at statics zero f place arguments = fails calls_too_deep place
-  calls_at statics (suc room) f place arguments = run_function (slice_get functions f) (calls_at statics room) statics arguments
+  calls_at statics (suc room) f place arguments =
+      run_function (slice_get functions f) (calls_at statics room) statics arguments
 
   -- what statements and statics see while no call is open
   abbrev pub outer_setting : List Slot → Slot → Setting
-  outer_setting statics input = record { calls = calls_at statics most_open_calls; statics = statics; input = input; counting = counting }
+  outer_setting statics input = record {
+    calls = calls_at statics most_open_calls;
+    statics = statics;
+    input = input;
+    counting = counting;
+  }
 
   -- the statics from this number on get their values in order; each sees those before it
   abbrev pub initialised : List Static → ℕ → List Slot → Doing (List Slot)
@@ -59,11 +65,13 @@ abbrev pub emits_given : Given Ending → Outcome (List EmitDatum)
 emits_given (Gives ending w) = Done w.emits
 emits_given (Stops fault) = Faulted fault
 
--- the slots of a program's statics, computed with one budget, or their fault. What is passed over meanwhile isn't counted.
+-- the slots of a program's statics, computed with one budget, or their fault. What is passed over meanwhile isn't
+-- counted.
 abbrev pub statics : Marked → ℕ → Outcome (List Slot)
 statics program budget =
     let all = statics_of program.core.items in
-    slots_given (initialised (functions_of program.core.items) (counting_table program) all 0 (undefined_slots (length all)) (new_world budget))
+    slots_given (initialised (functions_of program.core.items) (counting_table program) all 0
+    (undefined_slots (length all)) (new_world budget))
 
 -- the statements that a program runs for each record
 abbrev pub body_of : Core → Stms
@@ -72,8 +80,8 @@ body_of core = stms_of (statements_of core.items)
 -- what a program does with a record: its statements run on the record's bytes, with fresh variables and a new budget
 abbrev pub run_record : Marked → List Slot → ℕ → List ℕ → Given Ending
 run_record program slots budget input =
-    exec_all (outer_setting (functions_of program.core.items) (counting_table program) slots (Some (bytes input))) (body_of program.core)
-    (undefined_slots (length program.core.locals)) (new_world budget)
+    exec_all (outer_setting (functions_of program.core.items) (counting_table program) slots (Some (bytes input)))
+    (body_of program.core) (undefined_slots (length program.core.locals)) (new_world budget)
 
 -- what a program means for a record, with these statics: its emits in order, or its fault
 abbrev pub mean : Marked → List Slot → ℕ → List ℕ → Outcome (List EmitDatum)

@@ -8,7 +8,8 @@ use Rattle.sz_world_rules.specs.Slots.{Slot}
 use Rattle.sz_world_rules.specs.Candidates.{candidates}
 use Rattle.sz_mean.specs.Endings.{Ending, Normal, Breaks, Continues, Returns, Running, with_local}
 
--- a quantified variable: how it is quantified, its number, whether it is a bound of a slice and no index, and what its base gives
+-- a quantified variable: how it is quantified, its number, whether it is a bound of a slice and no index, and what
+-- its base gives
 pub record Variable : Type 0 where
   pub quantity : Quantity
   pub local : ℕ
@@ -109,7 +110,8 @@ module _ (place : Place) (condition : List Slot → Doing Slot) (body : Running)
     x ← v.base locals
     all_of v.local (holds vs) (candidates v.slice x) locals
 
-  -- the search over a variable with these candidates: the rest of the search, and whether the condition holds for all of the rest
+  -- the search over a variable with these candidates: the rest of the search, and whether the condition holds for all
+  -- of the rest
   abbrev pub search_by : Quantity → ℕ → List Datum → (rest others : Searching) → Searching
   search_by some n cs rest others locals = any_of n rest cs locals
   search_by each n cs rest others locals = each_of n rest cs false locals

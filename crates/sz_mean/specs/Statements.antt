@@ -1,4 +1,5 @@
--- What statements do. At one statement the budget is asked first, then whether a value is undefined, then where a store leads.
+-- What statements do. At one statement the budget is asked first, then whether a value is undefined, then where a
+-- store leads.
 use Rattle.std.specs.Prelude.{ℕ, suc, ◌+◌, List, map, true, Option, Some, None}
 use Rattle.sz_types.specs.declared.place.Place.{Place}
 use Rattle.sz_value.specs.Data.{truth}
@@ -30,8 +31,8 @@ abbrev pub if_defined : Slot → (next unknown : Doing Ending) → Doing Ending
 if_defined None next unknown = unknown
 if_defined (Some d) next unknown = next
 
--- the ticks of an emit are taken, and then it is added to the emits; where a part is undefined nothing is, but for its line, where lines
--- are counted
+-- the ticks of an emit are taken, and then it is added to the emits; where a part is undefined nothing is, but for
+-- its line, where lines are counted
 abbrev pub emits : Option ℕ → Place → ℕ → EmitParts → Running
 emits counting place table parts locals = do
   pay (1 + emit_weight parts) place
@@ -77,8 +78,10 @@ module _ (s : Setting) where
       pay 1 place
       chosen x (exec first locals) (exec second locals) (passed_over s.counting place locals)
     exec (while place e body) locals = while_ticks (turns s.counting place (λ l. eval s l e) idle (exec body)) locals
-    exec (do_while place body e) locals = while_ticks (turns_after s.counting place (exec body) (λ l. eval s l e)) locals
-    exec (for_loop place e between body) locals = while_ticks (turns s.counting place (test_of s e) (exec between) (exec body)) locals
+    exec (do_while place body e) locals =
+        while_ticks (turns_after s.counting place (exec body) (λ l. eval s l e)) locals
+    exec (for_loop place e between body) locals =
+        while_ticks (turns s.counting place (test_of s e) (exec between) (exec body)) locals
     exec break locals = give (Breaks locals)
     exec continue locals = give (Continues locals)
     exec (return_value place e) locals = do

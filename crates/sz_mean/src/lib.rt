@@ -3,4 +3,4 @@
 
 mod laws;
 
-pub use laws::{each_emit_takes_a_tick, faults_are_numbered_from_the_first};
+pub use laws::each_emit_takes_a_tick;

@@ -30,18 +30,21 @@ use Rattle.sz_members.specs.Showing.{shown_of}
 
 module _ {X : Type 0} (cmp : X → X → Ordering) where
   -- an element is entered once
-  pub entered_again : (ys : List X) (x : X) → cmp x x ≡ Equal → insert_key cmp (insert_key cmp ys x) x ≡ insert_key cmp ys x
+  pub entered_again : (ys : List X) (x : X) → cmp x x ≡ Equal
+      → insert_key cmp (insert_key cmp ys x) x ≡ insert_key cmp ys x
   entered_again [] x same = ap (λ found. match_ordering found (x ∷ x ∷ []) (x ∷ []) (x ∷ insert_key cmp [] x)) same
   entered_again (y ∷ ys) x same = by_found (cmp x y) refl (entered_again ys x same)
     where
-      again : (found : Ordering) → cmp x y ≡ found → insert_key cmp (y ∷ ys) x ≡ match_ordering found (x ∷ y ∷ ys) (y ∷ ys) (y ∷ insert_key cmp ys x)
+      again : (found : Ordering) → cmp x y ≡ found
+          → insert_key cmp (y ∷ ys) x ≡ match_ordering found (x ∷ y ∷ ys) (y ∷ ys) (y ∷ insert_key cmp ys x)
       again found is = ap (λ o. match_ordering o (x ∷ y ∷ ys) (y ∷ ys) (y ∷ insert_key cmp ys x)) is
 
       by_found : (found : Ordering) → cmp x y ≡ found → insert_key cmp (insert_key cmp ys x) x ≡ insert_key cmp ys x
           → insert_key cmp (insert_key cmp (y ∷ ys) x) x ≡ insert_key cmp (y ∷ ys) x
       by_found Less is after =
           ap (λ l. insert_key cmp l x) (again Less is)
-          ∙ ap (λ o. match_ordering o (x ∷ x ∷ y ∷ ys) (x ∷ y ∷ ys) (x ∷ insert_key cmp (y ∷ ys) x)) same ∙ sym (again Less is)
+          ∙ ap (λ o. match_ordering o (x ∷ x ∷ y ∷ ys) (x ∷ y ∷ ys) (x ∷ insert_key cmp (y ∷ ys) x)) same
+          ∙ sym (again Less is)
       by_found Equal is after = ap (λ l. insert_key cmp l x) (again Equal is)
       by_found Greater is after =
           let rest = insert_key cmp ys x in
@@ -50,7 +53,8 @@ module _ {X : Type 0} (cmp : X → X → Ordering) where
           ∙ ap (λ l. y ∷ l) after ∙ sym (again Greater is)
 
   -- the same element entered more than once
-  pub times_entered : (n : ℕ) (ys : List X) (x : X) → cmp x x ≡ Equal → all_entered cmp (replicate (suc n) x) ys ≡ insert_key cmp ys x
+  pub times_entered : (n : ℕ) (ys : List X) (x : X) → cmp x x ≡ Equal
+      → all_entered cmp (replicate (suc n) x) ys ≡ insert_key cmp ys x
   times_entered zero ys x same = refl
   times_entered (suc n) ys x same = ap (λ l. insert_key cmp l x) (times_entered n ys x same) ∙ entered_again ys x same
 
@@ -76,7 +80,8 @@ module _ {X : Type 0} (cmp : X → X → Ordering) where
   entered_apart x (y ∷ ys) apart = by_found (cmp x y) apart.0 (entered_apart x ys apart.1)
     where
       by_found : (found : Ordering) → is_eq found ≡ false → insert_key cmp ys x ≡ inserted cmp x ys
-          → match_ordering found (x ∷ y ∷ ys) (y ∷ ys) (y ∷ insert_key cmp ys x) ≡ cond (is_gt found) (y ∷ inserted cmp x ys) (x ∷ y ∷ ys)
+          → match_ordering found (x ∷ y ∷ ys) (y ∷ ys) (y ∷ insert_key cmp ys x)
+          ≡ cond (is_gt found) (y ∷ inserted cmp x ys) (x ∷ y ∷ ys)
       by_found Less is after = refl
       by_found Equal is after = absurd (true≢false is)
       by_found Greater is after = ap (λ l. y ∷ l) after
@@ -106,7 +111,8 @@ values_of_times (suc n) d = ap (λ l. d ∷ l) (values_of_times n d)
 pub values_of_both : (vs ws : List Weighted) → values_of (vs ++ ws) ≡ values_of vs ++ values_of ws
 values_of_both vs ws = map-append (λ (w : Weighted). w.value) vs ws
 
-apart_data : (v : Value) (ks : List Value) → AllByRecursion (λ k. value_eq v k ≡ false) ks → IsApart compare (seen v) (map seen ks)
+apart_data : (v : Value) (ks : List Value) → AllByRecursion (λ k. value_eq v k ≡ false) ks
+    → IsApart compare (seen v) (map seen ks)
 apart_data v [] all = tt
 apart_data v (k ∷ ks) all = (all.0, apart_data v ks all.1)
 
@@ -116,39 +122,50 @@ pub distinct_tallied : (es : List (Value × ℕ)) → IsDistinct value_eq (keys_
 distinct_tallied [] unique came = refl
 distinct_tallied (e ∷ es) unique came =
     by_times e.1 came.0 (distinct_tallied es (IsDistinct-tail value_eq e.0 (keys_of es) unique) came.1)
-    (apart_sorted compare (seen e.0) (data_tallied es) (apart_data e.0 (keys_of es) (IsDistinct-head value_eq e.0 (keys_of es) unique)))
+    (apart_sorted compare (seen e.0) (data_tallied es)
+    (apart_data e.0 (keys_of es) (IsDistinct-head value_eq e.0 (keys_of es) unique)))
   where
     by_times : (n : ℕ) → 0 < n → distinct compare (values_of (emits_tallied es)) ≡ sorted compare (data_tallied es)
         → IsApart compare (seen e.0) (sorted compare (data_tallied es))
-        → distinct compare (values_of (times n (seen e.0) ++ emits_tallied es)) ≡ inserted compare (seen e.0) (sorted compare (data_tallied es))
+        → distinct compare (values_of (times n (seen e.0) ++ emits_tallied es))
+        ≡ inserted compare (seen e.0) (sorted compare (data_tallied es))
     by_times zero some after apart = absurd (omega (arith, some))
     by_times (suc n) some after apart =
         ap (distinct compare)
-        (values_of_both (times (suc n) (seen e.0)) (emits_tallied es) ∙ ap (λ l. l ++ values_of (emits_tallied es)) (values_of_times (suc n) (seen e.0)))
+        (values_of_both (times (suc n) (seen e.0)) (emits_tallied es)
+        ∙ ap (λ l. l ++ values_of (emits_tallied es)) (values_of_times (suc n) (seen e.0)))
         ∙ distinct_of_both compare_total compare_ties (replicate (suc n) (seen e.0)) (values_of (emits_tallied es))
-        ∙ times_entered compare n (distinct compare (values_of (emits_tallied es))) (seen e.0) (compare_itself (seen e.0) (seen e.0) refl)
-        ∙ ap (λ l. insert_key compare l (seen e.0)) after
+        ∙ times_entered compare n (distinct compare (values_of (emits_tallied es))) (seen e.0)
+        (compare_itself (seen e.0) (seen e.0) refl) ∙ ap (λ l. insert_key compare l (seen e.0)) after
         ∙ entered_apart compare (seen e.0) (sorted compare (data_tallied es)) apart
 
 length_sorted : (es : List (Value × ℕ)) → length (sorted compare (data_tallied es)) ≡ length es
 length_sorted es =
-    length_permutation (data_tallied es) (sorted compare (data_tallied es)) (sorted_is_permutation compare_total (data_tallied es))
-    ∙ length-map (keys_of es) seen ∙ length-map es (λ e. e.0)
+    length_permutation (data_tallied es) (sorted compare (data_tallied es))
+    (sorted_is_permutation compare_total (data_tallied es)) ∙ length-map (keys_of es) seen ∙ length-map es (λ e. e.0)
 
 -- a set that is full stays full, whatever else comes
-set_stays_full : (limit : ℕ) (es : List (Value × ℕ)) (more : List Weighted) → IsDistinct value_eq (keys_of es) → AllCame es → nat_lt limit (length es) ≡ true
+set_stays_full : (limit : ℕ) (es : List (Value × ℕ)) (more : List Weighted) → IsDistinct value_eq (keys_of es)
+    → AllCame es → nat_lt limit (length es) ≡ true
     → set_rows limit (distinct compare (values_of (emits_tallied es ++ more))) ≡ overflow_row ∷ []
 set_stays_full limit es more unique came full =
     let all = all_entered compare (values_of more) (distinct compare (values_of (emits_tallied es))) in
     let above = ltb-true limit (length es) full in
-    let few : length (distinct compare (values_of (emits_tallied es))) ≡ length es = ap length (distinct_tallied es unique came) ∙ length_sorted es in
+    let few : length (distinct compare (values_of (emits_tallied es))) ≡ length es =
+    ap length (distinct_tallied es unique came) ∙ length_sorted es in
     let still = lt-ltb limit (length all)
-    (omega (arith, above, few, longer_with_all compare (values_of more) (distinct compare (values_of (emits_tallied es))))) in
+    (omega (
+      arith,
+      above,
+      few,
+      longer_with_all compare (values_of more) (distinct compare (values_of (emits_tallied es))),
+    )) in
     ap (set_rows limit) (ap (distinct compare) (values_of_both (emits_tallied es) more)
     ∙ distinct_of_either compare_total compare_ties (values_of (emits_tallied es)) (values_of more))
     ∙ ap (λ b. cond b (overflow_row ∷ []) (map value_row all)) still
 
-full_rows : (kind : TableKind) (limit : ℕ) (es : List (Value × ℕ)) (more : List Weighted) → IsDistinct value_eq (keys_of es) → AllCame es
+full_rows : (kind : TableKind) (limit : ℕ) (es : List (Value × ℕ)) (more : List Weighted)
+    → IsDistinct value_eq (keys_of es) → AllCame es
     → full_by kind limit (length es) ≡ true → rows_by kind limit (emits_tallied es ++ more) ≡ overflow_row ∷ []
 full_rows Set limit es more unique came full = set_stays_full limit es more unique came full
 full_rows Sum limit es more unique came full = absurd (true≢false (sym full))
@@ -157,7 +174,8 @@ full_rows Minimum limit es more unique came full = absurd (true≢false (sym ful
 full_rows Collection limit es more unique came full = absurd (true≢false (sym full))
 
 -- the row of a full set, whatever else comes
-pub full_shows : (table : Declaration) (es : List (Value × ℕ)) (more : List Weighted) → IsDistinct value_eq (keys_of es) → AllCame es
+pub full_shows : (table : Declaration) (es : List (Value × ℕ)) (more : List Weighted)
+    → IsDistinct value_eq (keys_of es) → AllCame es
     → is_full table (length es) ≡ true → rows_of table (emits_tallied es ++ more) ≡ overflow_row ∷ []
 full_shows table es more unique came full = full_rows table.kind table.limit es more unique came full
 
@@ -169,23 +187,31 @@ shown_set (e ∷ es) = ap (λ l. seen e.0 ∷ l) (shown_set es)
 shown_collection : (es : List (Value × ℕ)) → shown_of Collection (map seen_repeated es) ≡ values_of (emits_tallied es)
 shown_collection [] = refl
 shown_collection (e ∷ es) =
-    (λ i. sym (values_of_times e.1 (seen e.0)) i ++ shown_collection es i) ∙ sym (values_of_both (times e.1 (seen e.0)) (emits_tallied es))
+    (λ i. sym (values_of_times e.1 (seen e.0)) i ++ shown_collection es i)
+    ∙ sym (values_of_both (times e.1 (seen e.0)) (emits_tallied es))
 
-set_shows : (limit : ℕ) (es : List (Value × ℕ)) → IsDistinct value_eq (keys_of es) → AllCame es → nat_lt limit (length es) ≡ false
+set_shows : (limit : ℕ) (es : List (Value × ℕ)) → IsDistinct value_eq (keys_of es) → AllCame es
+    → nat_lt limit (length es) ≡ false
     → map value_row (sorted compare (shown_of Set (map seen_repeated es))) ≡ rows_by Set limit (emits_tallied es)
 set_shows limit es unique came few =
-    let values : distinct compare (values_of (emits_tallied es)) ≡ sorted compare (data_tallied es) = distinct_tallied es unique came in
-    let long : nat_lt limit (length (sorted compare (data_tallied es))) ≡ false = ap (nat_lt limit) (length_sorted es) ∙ few in
+    let values : distinct compare (values_of (emits_tallied es)) ≡ sorted compare (data_tallied es) =
+    distinct_tallied es unique came in
+    let long : nat_lt limit (length (sorted compare (data_tallied es))) ≡ false =
+    ap (nat_lt limit) (length_sorted es) ∙ few in
     ap (λ l. map value_row (sorted compare l)) (shown_set es)
-    ∙ sym (ap (set_rows limit) values ∙ ap (λ b. cond b (overflow_row ∷ []) (map value_row (sorted compare (data_tallied es)))) long)
+    ∙ sym (ap (set_rows limit) values
+    ∙ ap (λ b. cond b (overflow_row ∷ []) (map value_row (sorted compare (data_tallied es)))) long)
 
 -- the rows of what is kept, where it isn't a full set
-pub tally_shows : (table : Declaration) (es : List (Value × ℕ)) → IsDistinct value_eq (keys_of es) → AllCame es → IsOfMembers table.kind
-    → is_full table (length es) ≡ false → map value_row (sorted compare (shown_of table.kind (map seen_repeated es))) ≡ rows_of table (emits_tallied es)
+pub tally_shows : (table : Declaration) (es : List (Value × ℕ)) → IsDistinct value_eq (keys_of es) → AllCame es
+    → IsOfMembers table.kind
+    → is_full table (length es) ≡ false
+    → map value_row (sorted compare (shown_of table.kind (map seen_repeated es))) ≡ rows_of table (emits_tallied es)
 tally_shows table es unique came (inl is) few =
     subst (λ kind. full_by kind table.limit (length es) ≡ false
-    → map value_row (sorted compare (shown_of kind (map seen_repeated es))) ≡ rows_by kind table.limit (emits_tallied es))
-    (sym is) (λ few. set_shows table.limit es unique came few) few
+    → map value_row (sorted compare (shown_of kind (map seen_repeated es)))
+    ≡ rows_by kind table.limit (emits_tallied es)) (sym is) (λ few. set_shows table.limit es unique came few) few
 tally_shows table es unique came (inr is) few =
-    subst (λ kind. map value_row (sorted compare (shown_of kind (map seen_repeated es))) ≡ rows_by kind table.limit (emits_tallied es))
+    subst (λ kind. map value_row (sorted compare (shown_of kind (map seen_repeated es)))
+    ≡ rows_by kind table.limit (emits_tallied es))
     (sym is) (ap (λ l. map value_row (sorted compare l)) (shown_collection es))

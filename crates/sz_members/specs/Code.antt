@@ -10,7 +10,8 @@ use Rattle.sz_members.specs.Data.{Counted}
 -- how an aggregator of members is stored
 abbrev pub counted_code : Coded Counted
 counted_code =
-    code_by (Declaration × (List (Datum × ℕ) × (ℕ × ℕ))) (coded× declaration_code (coded× (coded_list (coded× datum_code coded_ℕ)) (coded× coded_ℕ coded_ℕ)))
+    code_by (Declaration × (List (Datum × ℕ) × (ℕ × ℕ)))
+    (coded× declaration_code (coded× (coded_list (coded× datum_code coded_ℕ)) (coded× coded_ℕ coded_ℕ)))
     (λ m. (m.table, (m.kept, (m.count, m.room))))
     (λ p. record { table = p.0; kept = p.1.0; count = p.1.1.0; room = p.1.1.1 })
     (λ _. refl)

@@ -5,8 +5,8 @@ use Rattle.sz_value.specs.Data.{Datum}
 use Rattle.sz_tabs.specs.Data.{Weighted, RowDatum}
 use Rattle.sz_tabs.specs.Rows.{rows_of}
 
--- a table's declaration, the number of the emits to it under one index list, the values that are kept with how often each came, in
--- any order, and for how many there is room
+-- a table's declaration, the number of the emits to it under one index list, the values that are kept with how often
+-- each came, in any order, and for how many there is room
 pub record Counted : Type 0 where
   pub table : Declaration
   pub count : ℕ

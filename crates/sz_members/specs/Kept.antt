@@ -10,8 +10,8 @@ use Rattle.sz_members.specs.Repeats.{AllCame, AreFew, emits_tallied}
 abbrev pub IsOfMembers : TableKind → Type 0
 IsOfMembers kind = (kind ≡ Set) ⊎ (kind ≡ Collection)
 
--- the table is one of members, each value came, a set holds no more than it has to, no more came than there were emits, and there is
--- the room that was made
+-- the table is one of members, each value came, a set holds no more than it has to, no more came than there were
+-- emits, and there is the room that was made
 pub record IsKept (table : Declaration) (tally : List (Value × ℕ)) (count room capacity : ℕ) : Type 0 where
   pub kind : IsOfMembers table.kind
   pub came : AllCame tally

@@ -6,7 +6,7 @@ use Rattle.sz_save_format.specs.Saved.{SavedState, CanBeSaved, Saves}
 use Rattle.sz_merge.specs.declared.error.MergeError.{MergeError}
 use Rattle.sz_merge.specs.declared.error.MergeError.TheVariants.{BadTables, OtherTables, TablesLimit, NoMemory}
 use Rattle.sz_merge.specs.Files.{IsUnfit, IsStopped}
-use Rattle.sz_save_laws.specs.Laws.{Gives}
+use Rattle.sz_merge.specs.JoiningLaws.{Gives}
 use Rattle.sz_merge.specs.declared.groups.Group.{Group}
 use Rattle.sz_merge.specs.Together.{bounds_of, HasSameTables, HaveTables, HaveSameTables, CanBeTogether}
 use Rattle.sz_merge.specs.Groups.{Gather, AreOf, Adds, Regroups, HasBound, held_by}
@@ -22,14 +22,16 @@ bounds_gathered (g ∷ gs) states h =
     omega (arith, front, back, both) ∙ ap bounds_of (sym h.2)
 
 -- the first group has the declarations of the first state
-pub same_gathered : (groups states : List SavedState) (s : SavedState) → Gather groups states → HasSameTables groups s → HasSameTables states s
+pub same_gathered : (groups states : List SavedState) (s : SavedState) → Gather groups states → HasSameTables groups s
+    → HasSameTables states s
 same_gathered [] states s h same = subst (λ l. HasSameTables l s) (sym h) tt
 same_gathered (g ∷ gs) states s h same =
     let first = led h.3.joining h.3.is in
     let is : states ≡ first.first ∷ (first.more ++ h.1) = h.2 ∙ (λ i. (sym h.3.given ∙ first.given) i ++ h.1) in
     subst (λ l. HasSameTables l s) (sym is) (same ∙ ap (λ (t : SavedState). t.decls) (sym h.3.left) ∙ sym first.decls)
 
-pub same_of_gathered : (groups states : List SavedState) (s : SavedState) → Gather groups states → HasSameTables states s → HasSameTables groups s
+pub same_of_gathered : (groups states : List SavedState) (s : SavedState) → Gather groups states
+    → HasSameTables states s → HasSameTables groups s
 same_of_gathered [] states s h same = tt
 same_of_gathered (g ∷ gs) states s h same =
     let first = led h.3.joining h.3.is in
@@ -37,14 +39,16 @@ same_of_gathered (g ∷ gs) states s h same =
     subst (λ l. HasSameTables l s) is same ∙ first.decls ∙ ap (λ (t : SavedState). t.decls) h.3.left
 
 -- one state more is a group of its own
-pub gather_more : (groups states : List SavedState) (s : SavedState) → CanBeSaved s → Gather groups states → Gather (groups ++ s ∷ []) (states ++ s ∷ [])
+pub gather_more : (groups states : List SavedState) (s : SavedState) → CanBeSaved s → Gather groups states
+    → Gather (groups ++ s ∷ []) (states ++ s ∷ [])
 gather_more [] states s can h = (s ∷ [], [], ap (λ l. l ++ s ∷ []) h ∙ sym (append-nil (s ∷ [])), alone s can, refl)
 gather_more (g ∷ gs) states s can h =
     (h.0, h.1 ++ s ∷ [], ap (λ l. l ++ s ∷ []) h.2 ∙ append_assoc h.0 h.1 (s ∷ []), h.3, gather_more gs h.1 s can h.4)
 
 module _ (l g j : SavedState) (gives : Gives l g j) where
   -- the last two groups joined
-  gather_last : (groups states : List SavedState) → Gather (groups ++ l ∷ g ∷ []) states → Gather (groups ++ j ∷ []) states
+  gather_last : (groups states : List SavedState) → Gather (groups ++ l ∷ g ∷ []) states
+      → Gather (groups ++ j ∷ []) states
   gather_last [] states h =
       let rest = h.4 in (
         h.0 ++ rest.0,
@@ -61,7 +65,8 @@ module _ (l g j : SavedState) (gives : Gives l g j) where
       let two = bounds_of_both groups (l ∷ g ∷ []) in
       omega (arith, one, two, gives.joins.bound)
 
-  tables_last : (ds : List Declaration) (groups : List SavedState) → HaveTables ds (groups ++ l ∷ g ∷ []) → HaveTables ds (groups ++ j ∷ [])
+  tables_last : (ds : List Declaration) (groups : List SavedState) → HaveTables ds (groups ++ l ∷ g ∷ [])
+      → HaveTables ds (groups ++ j ∷ [])
   tables_last ds [] h = (gives.joins.decls ∙ h.0, tt)
   tables_last ds (s ∷ groups) h = (h.0, tables_last ds groups h.1)
 
@@ -76,7 +81,8 @@ module _ (l g j : SavedState) (gives : Gives l g j) where
   }
 
 -- the last two groups can be joined
-tables_of_last : (l g : SavedState) (ds : List Declaration) (groups : List SavedState) → HaveTables ds (groups ++ l ∷ g ∷ []) → g.decls ≡ l.decls
+tables_of_last : (l g : SavedState) (ds : List Declaration) (groups : List SavedState)
+    → HaveTables ds (groups ++ l ∷ g ∷ []) → g.decls ≡ l.decls
 tables_of_last l g ds [] h = h.1.0 ∙ sym h.0
 tables_of_last l g ds (s ∷ groups) h = tables_of_last l g ds groups h.1
 
@@ -84,7 +90,8 @@ same_of_last : (l g : SavedState) (groups : List SavedState) → HaveSameTables 
 same_of_last l g [] h = h.0
 same_of_last l g (s ∷ groups) h = tables_of_last l g s.decls groups h
 
-pub can_two : (l g : SavedState) (groups : List SavedState) → CanBeTogether (groups ++ l ∷ g ∷ []) → CanBeTogether (l ∷ g ∷ [])
+pub can_two : (l g : SavedState) (groups : List SavedState) → CanBeTogether (groups ++ l ∷ g ∷ [])
+    → CanBeTogether (l ∷ g ∷ [])
 can_two l g groups can = record {
   same = (same_of_last l g groups can.same, tt);
   low = let both = bounds_of_both groups (l ∷ g ∷ []) in omega (arith, both, can.low);
@@ -93,8 +100,8 @@ can_two l g groups can = record {
 pub regroups_itself : (groups : List SavedState) → CanBeTogether groups → Regroups groups groups
 regroups_itself groups can = record { gather = λ states h. h; bounds = refl; can = can }
 
-pub regroups_last : (before groups : List SavedState) (l g j : SavedState) → Gives l g j → Regroups before (groups ++ l ∷ g ∷ [])
-    → Regroups before (groups ++ j ∷ [])
+pub regroups_last : (before groups : List SavedState) (l g j : SavedState) → Gives l g j
+    → Regroups before (groups ++ l ∷ g ∷ []) → Regroups before (groups ++ j ∷ [])
 regroups_last before groups l g j gives h = record {
   gather = λ states are. gather_last l g j gives groups states (h.gather states are);
   bounds = bounds_last l g j gives groups ∙ h.bounds;
@@ -108,16 +115,18 @@ held_more groups one = map-append (λ (group : Group). group.saved) groups (one 
 pub held_two : (groups now : List Group) (last : Group) (s : SavedState) → now ≡ groups ++ last ∷ []
     → held_by now ++ s ∷ [] ≡ held_by groups ++ last.saved ∷ s ∷ []
 held_two groups now last s is =
-    ap (λ l. held_by l ++ s ∷ []) is ∙ ap (λ l. l ++ s ∷ []) (held_more groups last) ∙ append_assoc (held_by groups) (last.saved ∷ []) (s ∷ [])
+    ap (λ l. held_by l ++ s ∷ []) is ∙ ap (λ l. l ++ s ∷ []) (held_more groups last)
+    ∙ append_assoc (held_by groups) (last.saved ∷ []) (s ∷ [])
 
 -- ---- a file is added, or not
 
-module _ (groups before : List SavedState) (bytes : List ℕ) (saved : SavedState) (are : AreOf groups before) (saves : Saves bytes saved) where
+module _ (groups before : List SavedState) (bytes : List ℕ) (saved : SavedState) (are : AreOf groups before)
+    (saves : Saves bytes saved) where
   low_before : bounds_of groups + saved.bound ≤ 2 ^ 63 → bounds_of before + saved.bound ≤ 2 ^ 63
   low_before low = let bounds = bounds_gathered groups before are.gather in omega (arith, bounds, low)
 
-  pub added : (now : List SavedState) → HasSameTables groups saved → bounds_of groups + saved.bound ≤ 2 ^ 63 → Regroups (groups ++ saved ∷ []) now
-      → Adds before bytes now
+  pub added : (now : List SavedState) → HasSameTables groups saved → bounds_of groups + saved.bound ≤ 2 ^ 63
+      → Regroups (groups ++ saved ∷ []) now → Adds before bytes now
   added now same low h =
       let same_before = same_gathered groups before saved are.gather same in
       record {
@@ -138,8 +147,8 @@ module _ (groups before : List SavedState) (bytes : List ℕ) (saved : SavedStat
   unfit_stops NoMemory h = absurd h
 
 -- groups with one more have a bound, and are some
-pub bound_more : (groups now : List SavedState) (saved : SavedState) (bound all : ℕ) → bound ≡ bounds_of groups → all ≡ bound + saved.bound
-    → Regroups (groups ++ saved ∷ []) now → HasBound now all
+pub bound_more : (groups now : List SavedState) (saved : SavedState) (bound all : ℕ) → bound ≡ bounds_of groups
+    → all ≡ bound + saved.bound → Regroups (groups ++ saved ∷ []) now → HasBound now all
 bound_more groups now saved bound all is added h =
     let both = bounds_of_both groups (saved ∷ []) in
     record { can = h.can; is = omega (arith, is, added, both, h.bounds) }

@@ -3,7 +3,7 @@ use Rattle.std.proofs.Common.{◌≡◌, ◌∙◌, ◌+◌, ◌^◌, ◌≤◌,
 use Rattle.std.specs.List.Sorted.{IsPermutation}
 use Rattle.sz_types.specs.Tables.{Declaration}
 use Rattle.sz_save_format.specs.Saved.{SavedState, CanBeSaved}
-use Rattle.sz_save_laws.specs.Laws.{Joining, given, joined, given_in, state_of, IsJoining, Gives, ForgetsOrder}
+use Rattle.sz_merge.specs.JoiningLaws.{Joining, given, joined, given_in, state_of, IsJoining, Gives, ForgetsOrder}
 use Rattle.sz_merge.specs.Laws.{IsOneTogether}
 use Rattle.sz_merge.specs.Together.{AreTogether, bounds_of, HasSameTables, HaveTables, CanBeTogether}
 
@@ -11,7 +11,8 @@ pub bounds_of_both : (ss ts : List SavedState) → bounds_of (ss ++ ts) ≡ boun
 bounds_of_both [] ts = omega arith
 bounds_of_both (s ∷ ss) ts = omega (arith, bounds_of_both ss ts)
 
-pub tables_both : (ds : List Declaration) (ss ts : List SavedState) → HaveTables ds ss → HaveTables ds ts → HaveTables ds (ss ++ ts)
+pub tables_both : (ds : List Declaration) (ss ts : List SavedState) → HaveTables ds ss → HaveTables ds ts
+    → HaveTables ds (ss ++ ts)
 tables_both ds [] ts g h = h
 tables_both ds (s ∷ ss) ts g h = (g.0, tables_both ds ss ts g.1 h)
 
@@ -37,25 +38,32 @@ led (joined f b s) h =
       bound = omega (arith, both, front.bound, back.bound, h.2.joins.bound);
     }
 
-pub bound_together : (states : List SavedState) (all : SavedState) → AreTogether states all → all.bound ≡ bounds_of states
-bound_together states all h = ap (λ (s : SavedState). s.bound) (sym h.left) ∙ (led h.joining h.is).bound ∙ ap bounds_of h.given
+pub bound_together : (states : List SavedState) (all : SavedState) → AreTogether states all
+    → all.bound ≡ bounds_of states
+bound_together states all h = ap (λ (s : SavedState). s.bound) (sym h.left) ∙ (led h.joining h.is).bound
+    ∙ ap bounds_of h.given
 
 -- a state alone
 pub alone : (s : SavedState) → CanBeSaved s → AreTogether (s ∷ []) s
 alone s can = record { joining = given s; is = can; given = refl; left = refl }
 
 -- both sides joined
-pub joined_together : (ss ts : List SavedState) (s t both : SavedState) → AreTogether ss s → AreTogether ts t → Gives s t both → AreTogether (ss ++ ts) both
+pub joined_together : (ss ts : List SavedState) (s t both : SavedState) → AreTogether ss s → AreTogether ts t
+    → Gives s t both → AreTogether (ss ++ ts) both
 joined_together ss ts s t both g h gives = record {
   joining = joined g.joining h.joining both;
-  is = (g.is, h.is, subst (λ (p : SavedState × SavedState). Gives p.0 p.1 both) (λ i. (sym g.left i, sym h.left i)) gives);
+  is = (
+    g.is,
+    h.is,
+    subst (λ (p : SavedState × SavedState). Gives p.0 p.1 both) (λ i. (sym g.left i, sym h.left i)) gives,
+  );
   given = λ i. g.given i ++ h.given i;
   left = refl;
 }
 
 -- one state more
-pub can_more : (before : List SavedState) (s : SavedState) → CanBeTogether before → HasSameTables before s → bounds_of before + s.bound ≤ 2 ^ 63
-    → CanBeTogether (before ++ s ∷ [])
+pub can_more : (before : List SavedState) (s : SavedState) → CanBeTogether before → HasSameTables before s
+    → bounds_of before + s.bound ≤ 2 ^ 63 → CanBeTogether (before ++ s ∷ [])
 can_more [] s can same low = record { same = tt; low = omega (arith, low) }
 can_more (f ∷ more) s can same low = record {
   same = tables_both f.decls more (s ∷ []) can.same (same, tt);
@@ -67,4 +75,5 @@ pub one_together : ForgetsOrder → IsOneTogether
 one_together forgets states others all every moved g h =
     sym g.left
     ∙ forgets g.joining h.joining g.is h.is
-    (subst (λ (p : List SavedState × List SavedState). IsPermutation p.0 p.1) (λ i. (sym g.given i, sym h.given i)) moved) ∙ h.left
+    (subst (λ (p : List SavedState × List SavedState). IsPermutation p.0 p.1)
+    (λ i. (sym g.given i, sym h.given i)) moved) ∙ h.left

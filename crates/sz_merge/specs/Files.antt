@@ -19,8 +19,8 @@ IsUnfit before state OtherTables = HasSameTables before state → ⊥
 IsUnfit before state TablesLimit = HasSameTables before state × (most_bound < bounds_of before + state.bound)
 IsUnfit before state _ = ⊥
 
--- The file of these bytes can't be joined to those before it, for this cause: it is no saved file; or else its state can't. Want of memory
--- says nothing of the file.
+-- The file of these bytes can't be joined to those before it, for this cause: it is no saved file; or else its state
+-- can't. Want of memory says nothing of the file.
 abbrev pub IsStopped : List SavedState → List ℕ → MergeError → Type 0
 IsStopped before bytes BadTables = (state : SavedState) → Saves bytes state → ⊥
 IsStopped before bytes OtherTables = (state : SavedState) × Saves bytes state × IsUnfit before state OtherTables

@@ -13,7 +13,8 @@ held_by groups = map (λ (group : Group). group.saved) groups
 abbrev pub Gather : List SavedState → List SavedState → Type 0
 Gather [] states = states ≡ []
 Gather (group ∷ groups) states =
-    (front : List SavedState) × (back : List SavedState) × (states ≡ front ++ back) × AreTogether front group × Gather groups back
+    (front : List SavedState) × (back : List SavedState) × (states ≡ front ++ back) × AreTogether front group
+    × Gather groups back
 
 -- the groups are of these states, which can all be joined
 pub record AreOf (groups states : List SavedState) : Type 0 where

@@ -7,4 +7,5 @@ use Rattle.sz_merge.specs.Together.{AreTogether}
 -- the same states, in whatever order, are together one state
 abbrev pub IsOneTogether : Type 0
 IsOneTogether =
-    (states others : List SavedState) (all every : SavedState) → IsPermutation states others → AreTogether states all → AreTogether others every → all ≡ every
+    (states others : List SavedState) (all every : SavedState) → IsPermutation states others → AreTogether states all
+    → AreTogether others every → all ≡ every

@@ -1,4 +1,6 @@
 -- what the public contracts rest on
+pub mod JoiningLaws
+pub mod Runs
 pub mod Together
 pub mod Files
 pub mod Laws

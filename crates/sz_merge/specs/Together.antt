@@ -3,10 +3,10 @@ use Rattle.std.specs.Prelude.{◌≡◌, ℕ, ◌+◌, ◌≤◌, ⊤, List, [],
 use Rattle.std.specs.List.{AllByRecursion}
 use Rattle.sz_types.specs.Tables.{Declaration}
 use Rattle.sz_save_format.specs.Saved.{SavedState, most_bound}
-use Rattle.sz_save_laws.specs.Laws.{Joining, given_in, state_of, IsJoining}
+use Rattle.sz_merge.specs.JoiningLaws.{Joining, given_in, state_of, IsJoining}
 
--- These states are together this one: they were joined, two at a time, until it was left. Which two are joined first makes no difference,
--- nor does the order of the states.
+-- These states are together this one: they were joined, two at a time, until it was left. Which two are joined first
+-- makes no difference, nor does the order of the states.
 pub record AreTogether (states : List SavedState) (all : SavedState) : Type 0 where
   pub joining : Joining
   pub is : IsJoining joining

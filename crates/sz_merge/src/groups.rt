@@ -1,6 +1,6 @@
 //! Groups of files that were joined.
 ghost use Rattle.std.specs.Prelude.{◌≡◌, ◌≢◌, ◌≤◌, ◌++◌, ◌∷◌, [], vec_len, IfOk, IfSome, IfNone};
-ghost use Rattle.sz_save_laws.specs.Laws.{Gives};
+ghost use Rattle.sz_merge.specs.JoiningLaws.{Gives};
 ghost use Rattle.sz_merge.specs.Together.{CanBeTogether};
 ghost use Rattle.sz_merge.specs.Groups.{held_by, Regroups};
 

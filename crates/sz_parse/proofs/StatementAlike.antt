@@ -18,7 +18,8 @@ use Rattle.sz_parse.proofs.StatementSound.{stm_sound}
 use Rattle.sz_parse.proofs.StatementComplete.{stm_complete}
 
 module _ (f g : Spelling) where
-  perhaps_alike : {A : Type 0} (R S : A → List Token → List Token → Type 0) → Alike f g R S → Alike f g (Perhaps R) (Perhaps S)
+  perhaps_alike : {A : Type 0} (R S : A → List Token → List Token → Type 0) → Alike f g R S
+      → Alike f g (Perhaps R) (Perhaps S)
   perhaps_alike R S on None ts rest h a = (h, on_end f g ts rest h a)
   perhaps_alike R S on (Some x) ts rest h a = on x ts rest h a
 
@@ -143,7 +144,8 @@ module _ (f g : Spelling) where
   mutual
     unfolding ReadsStm
 
-    pub stm_alike : (s : Stm) (ts rest : List Token) → ReadsStm f s ts rest → Agree f g ts → ReadsStm g s ts rest × Agree f g rest
+    pub stm_alike : (s : Stm) (ts rest : List Token) → ReadsStm f s ts rest → Agree f g ts
+        → ReadsStm g s ts rest × Agree f g rest
     stm_alike (empty p) ts rest h a = (h, on_at f g h a)
     stm_alike (block p ss) ts rest h a =
         let x = stms_alike ss _ _ h.3 (on_at f g h.2 a) in
@@ -174,8 +176,32 @@ module _ (f g : Spelling) where
         let m = on_name f g h.10 a in
         let d = declared_alike ps _ _ h.14 (on_is f g h.13 (on_is f g h.12 (on_is f g h.11 m.1))) in
         let x = type_alike f g t _ _ h.17 (on_is f g h.16 (on_is f g h.15 d.1)) in
-        let y = stms_alike ss _ _ h.19 (on_is f g h.18 x.1) in
-        ((h.0, h.1, h.2, h.3, h.4, h.5, h.6, h.7, h.8, h.9, m.0, h.11, h.12, h.13, d.0, h.15, h.16, x.0, h.18, y.0, h.20), on_is f g h.20 y.1)
+        let y = stms_alike ss _ _ h.19 (on_is f g h.18 x.1) in (
+          (
+            h.0,
+            h.1,
+            h.2,
+            h.3,
+            h.4,
+            h.5,
+            h.6,
+            h.7,
+            h.8,
+            h.9,
+            m.0,
+            h.11,
+            h.12,
+            h.13,
+            d.0,
+            h.15,
+            h.16,
+            x.0,
+            h.18,
+            y.0,
+            h.20,
+          ),
+          on_is f g h.20 y.1,
+        )
     stm_alike (simple s) ts rest h a =
         let x = simple_alike s _ _ h.1 a in
         ((h.0, x.0, h.2), on_is f g h.2 x.1)
@@ -197,7 +223,8 @@ module _ (f g : Spelling) where
         let y = condition_alike c _ _ h.7 (on_is f g h.6 x.1) in
         ((h.0, h.1, h.2, h.3, h.4, x.0, h.6, y.0, h.8), on_is f g h.8 y.1)
     stm_alike (for_loop p first c t s) ts rest h a =
-        let x = perhaps_alike (ReadsFirst f) (ReadsFirst g) first_alike first _ _ h.10 (on_is f g h.9 (on_at f g h.8 a)) in
+        let x =
+        perhaps_alike (ReadsFirst f) (ReadsFirst g) first_alike first _ _ h.10 (on_is f g h.9 (on_at f g h.8 a)) in
         let y = perhaps_alike (Reads f) (Reads g) (exp_alike f g) c _ _ h.12 (on_is f g h.11 x.1) in
         let z = perhaps_alike (ReadsSimple f) (ReadsSimple g) simple_alike t _ _ h.14 (on_is f g h.13 y.1) in
         let w = stm_alike s _ _ h.16 (on_is f g h.15 z.1) in
@@ -219,7 +246,8 @@ module _ (f g : Spelling) where
         let y = stm_alike s _ _ h.10 (on_is f g h.9 x.1) in
         ((h.0, h.1, h.2, h.3, h.4, h.5, h.6, q.0, x.0, h.9, y.0), y.1)
 
-    stms_alike : (ss : Stms) (ts rest : List Token) → ReadsStms f ss ts rest → Agree f g ts → ReadsStms g ss ts rest × Agree f g rest
+    stms_alike : (ss : Stms) (ts rest : List Token) → ReadsStms f ss ts rest → Agree f g ts
+        → ReadsStms g ss ts rest × Agree f g rest
     stms_alike no_stms ts rest h a = (h, on_end f g ts rest h a)
     stms_alike (stm s ss) ts rest h a =
         let x = stm_alike s _ _ h.1 a in
@@ -227,8 +255,8 @@ module _ (f g : Spelling) where
         ((h.0, x.0, y.0), y.1)
 
 -- a statement that is read by the one spelling is read by the other, and they agree on what follows
-pub some_alike : (f g : Spelling) (d : ℕ) (ts : List Token) (x : Stm × List Token) → Agree f g ts → stm_at f d ts ≡ Some x
-    → (stm_at g d ts ≡ Some x) × Agree f g x.1
+pub some_alike : (f g : Spelling) (d : ℕ) (ts : List Token) (x : Stm × List Token) → Agree f g ts
+    → stm_at f d ts ≡ Some x → (stm_at g d ts ≡ Some x) × Agree f g x.1
 some_alike f g d ts x a e =
     let r = (stm_sound f d ts).holds x e in
     let s = stm_alike f g x.0 ts x.1 r.0 a in

@@ -60,7 +60,8 @@ module _ (text : Spelling) (r : Readers) (d : ℕ) (h : AreSound text r d) where
   begins_stm_sound : (ts : List Token) → Holds (begins_stm ts) (λ b. b ≡ ts)
   unfolding begins_stm
   begins_stm_sound [] = none_holds _
-  begins_stm_sound (t ∷ ts) = choose_holds (known (after_sign signs.CloseBrace (t ∷ ts))) (some_holds _ _ refl) (λ a c. none_holds _)
+  begins_stm_sound (t ∷ ts) =
+      choose_holds (known (after_sign signs.CloseBrace (t ∷ ts))) (some_holds _ _ refl) (λ a c. none_holds _)
 
   stm_step_sound : (ts : List Token) → Holds (stm_step r.stm ts) (λ o. Holds o (λ x. ParsedStm text d ts x))
   unfolding stm_step
@@ -68,10 +69,13 @@ module _ (text : Spelling) (r : Readers) (d : ℕ) (h : AreSound text r d) where
       (λ b e. some_holds _ _ (subst (λ (u : List Token). Holds (r.stm b) (λ x. ParsedStm text d u x)) e (h.stm b)))
 
   pub stm_item : IsItem (stm_step r.stm) (Low (ReadsStm text) stm_height d)
-  stm_item = record { sound = λ ts o e. (stm_step_sound ts).holds o e; shorter = λ x ts rest i. stm_shorter text x ts rest i.0 }
+  stm_item = record {
+    sound = λ ts o e. (stm_step_sound ts).holds o e;
+    shorter = λ x ts rest i. stm_shorter text x ts rest i.0;
+  }
 
-  stms_of_items : (ss : List Stm) (ts rest : List Token) → Many (Low (ReadsStm text) stm_height d) ss ts rest → ReadsStms text (stms_of ss) ts rest
-      × (stm_heights (stms_of ss) ≤ d)
+  stms_of_items : (ss : List Stm) (ts rest : List Token) → Many (Low (ReadsStm text) stm_height d) ss ts rest
+      → ReadsStms text (stms_of ss) ts rest × (stm_heights (stms_of ss) ≤ d)
   unfolding Many ReadsStm stm_height
   stms_of_items [] ts rest m = (m, omega arith)
   stms_of_items (s ∷ ss) ts rest m =
@@ -87,57 +91,67 @@ module _ (text : Spelling) (r : Readers) (d : ℕ) (h : AreSound text r d) where
   block_sound : (ts0 : List Token) (p : Place) (ts : List Token) → At p (kinds.Sign signs.OpenBrace) ts0 ts
       → Holds (block_at r.stm p ts) (ParsedStm text (suc d) ts0)
   unfolding block_at ReadsStm stm_height
-  block_sound ts0 p ts at = bind_holds (body_sound ts) (λ y m. some_holds _ _ ((ts, m.later, at, m.reads, m.closes), omega (arith, m.low)))
+  block_sound ts0 p ts at =
+      bind_holds (body_sound ts) (λ y m. some_holds _ _ ((ts, m.later, at, m.reads, m.closes), omega (arith, m.low)))
 
-  declare_sound : (ts0 ts a : List Token) (n : Ident) → AtName text n ts0 ts → IsSign signs.Colon ts a → Holds (declare_at r n a) (ParsedStm text (suc d) ts0)
+  declare_sound : (ts0 ts a : List Token) (n : Ident) → AtName text n ts0 ts → IsSign signs.Colon ts a
+      → Holds (declare_at r n a) (ParsedStm text (suc d) ts0)
   unfolding declare_at ReadsStm stm_height
   declare_sound ts0 ts a n at c =
-      bind_holds (h.type a) (λ t g. bind_holds (init_sound text r.expr d h.expr t.1) (λ e ge. bind_holds (after_sign_sound signs.Semicolon e.1) (λ z s.
+      bind_holds (h.type a) (λ t g. bind_holds (init_sound text r.expr d h.expr t.1)
+      (λ e ge. bind_holds (after_sign_sound signs.Semicolon e.1) (λ z s.
       some_holds _ _ ((ts, a, t.1, e.1, at, c, g.reads, ge.0, s), omega (arith, g.low, ge.1)))))
 
-  function_sound : (ts0 ts a b : List Token) (n : Ident) → AtName text n ts0 ts → IsSign signs.Colon ts a → IsWord words.Function a b
-      → Holds (function_at text r n b) (ParsedStm text (suc d) ts0)
+  function_sound : (ts0 ts a b : List Token) (n : Ident) → AtName text n ts0 ts → IsSign signs.Colon ts a
+      → IsWord words.Function a b → Holds (function_at text r n b) (ParsedStm text (suc d) ts0)
   unfolding function_at ReadsStm stm_height
   function_sound ts0 ts a b n at c w =
       bind_holds (after_sign_sound signs.OpenParen b)
       (λ f o. bind_holds (declared_sound text r.type d h.type f)
-      (λ ps gp. bind_holds (after_sign_sound signs.CloseParen ps.1) (λ i cl. bind_holds (after_sign_sound signs.Colon i) (λ j m.
-      bind_holds (h.type j) (λ t g. bind_holds (after_sign_sound signs.OpenBrace t.1) (λ k ob. bind_holds (body_sound k) (λ y gb.
+      (λ ps gp. bind_holds (after_sign_sound signs.CloseParen ps.1)
+      (λ i cl. bind_holds (after_sign_sound signs.Colon i) (λ j m. bind_holds (h.type j)
+      (λ t g. bind_holds (after_sign_sound signs.OpenBrace t.1) (λ k ob. bind_holds (body_sound k) (λ y gb.
       some_holds _ _ (
         (ts, a, b, f, ps.1, i, j, t.1, k, gb.later, at, c, w, o, gp.0, cl, m, g.reads, ob, gb.reads, gb.closes),
         omega (arith, gp.1, g.low, gb.low),
       ))))))))
 
-  table_stm_sound : (ts0 ts a b : List Token) (n : Ident) → AtName text n ts0 ts → IsSign signs.Colon ts a → IsWord words.Table a b
-      → Holds (table_stm_at text r n b) (ParsedStm text (suc d) ts0)
+  table_stm_sound : (ts0 ts a b : List Token) (n : Ident) → AtName text n ts0 ts → IsSign signs.Colon ts a
+      → IsWord words.Table a b → Holds (table_stm_at text r n b) (ParsedStm text (suc d) ts0)
   unfolding table_stm_at ReadsStm stm_height
-  table_stm_sound ts0 ts a b n at c w = bind_holds (table_sound text r.type d h.type b) (λ t g. some_holds _ _ ((ts, a, b, at, c, w, g.0), omega (arith, g.1)))
+  table_stm_sound ts0 ts a b n at c w = bind_holds (table_sound text r.type d h.type b)
+      (λ t g. some_holds _ _ ((ts, a, b, at, c, w, g.0), omega (arith, g.1)))
 
-  colon_sound : (ts0 ts a : List Token) (n : Ident) → AtName text n ts0 ts → IsSign signs.Colon ts a → Holds (colon_at text r n a) (ParsedStm text (suc d) ts0)
+  colon_sound : (ts0 ts a : List Token) (n : Ident) → AtName text n ts0 ts → IsSign signs.Colon ts a
+      → Holds (colon_at text r n a) (ParsedStm text (suc d) ts0)
   unfolding colon_at
   colon_sound ts0 ts a n at c =
       choose_holds (after_word_sound words.Table a)
-      (choose_holds (after_word_sound words.Function a) (declare_sound ts0 ts a n at c) (λ b w. function_sound ts0 ts a b n at c w))
-      (λ b w. table_stm_sound ts0 ts a b n at c w)
+      (choose_holds (after_word_sound words.Function a) (declare_sound ts0 ts a n at c)
+      (λ b w. function_sound ts0 ts a b n at c w)) (λ b w. table_stm_sound ts0 ts a b n at c w)
 
-  define_sound : (ts0 ts a : List Token) (n : Ident) → AtName text n ts0 ts → IsSign signs.Define ts a → Holds (define_at r n a) (ParsedStm text (suc d) ts0)
+  define_sound : (ts0 ts a : List Token) (n : Ident) → AtName text n ts0 ts → IsSign signs.Define ts a
+      → Holds (define_at r n a) (ParsedStm text (suc d) ts0)
   unfolding define_at ReadsStm stm_height
   define_sound ts0 ts a n at c =
       bind_holds (h.expr 5 a)
-      (λ x g. bind_holds (after_sign_sound signs.Semicolon x.1) (λ z s. some_holds _ _ ((ts, a, x.1, at, c, g.reads, s), omega (arith, g.low))))
+      (λ x g. bind_holds (after_sign_sound signs.Semicolon x.1)
+      (λ z s. some_holds _ _ ((ts, a, x.1, at, c, g.reads, s), omega (arith, g.low))))
 
-  simple_stm_sound : (ts0 ts : List Token) (n : Ident) → AtName text n ts0 ts → Holds (simple_stm_at text r d n ts) (ParsedStm text (suc d) ts0)
+  simple_stm_sound : (ts0 ts : List Token) (n : Ident) → AtName text n ts0 ts
+      → Holds (simple_stm_at text r d n ts) (ParsedStm text (suc d) ts0)
   unfolding simple_stm_at ReadsStm stm_height
   simple_stm_sound ts0 ts n at =
       bind_holds (simple_sound text r.expr d h.expr ts0 n ts at)
       (λ s g. bind_holds (after_sign_sound signs.Semicolon s.1) (λ z c. some_holds _ _ ((s.1, g.0, c), g.1)))
 
-  named_stm_sound : (ts0 ts : List Token) (n : Ident) → AtName text n ts0 ts → Holds (named_stm_at text r d n ts) (ParsedStm text (suc d) ts0)
+  named_stm_sound : (ts0 ts : List Token) (n : Ident) → AtName text n ts0 ts
+      → Holds (named_stm_at text r d n ts) (ParsedStm text (suc d) ts0)
   unfolding named_stm_at
   named_stm_sound ts0 ts n at =
       choose_holds (after_sign_sound signs.Colon ts)
-      (choose_holds (after_sign_sound signs.Define ts) (simple_stm_sound ts0 ts n at) (λ a c. define_sound ts0 ts a n at c))
-      (λ a c. colon_sound ts0 ts a n at c)
+      (choose_holds (after_sign_sound signs.Define ts) (simple_stm_sound ts0 ts n at)
+      (λ a c. define_sound ts0 ts a n at c)) (λ a c. colon_sound ts0 ts a n at c)
 
   static_sound : (ts0 : List Token) (p : Place) (ts : List Token) → At p (kinds.Word words.Static) ts0 ts
       → Holds (static_at text r p ts) (ParsedStm text (suc d) ts0)
@@ -145,43 +159,59 @@ module _ (text : Spelling) (r : Readers) (d : ℕ) (h : AreSound text r d) where
   static_sound ts0 p ts at =
       bind_holds (label_sound text ts)
       (λ n l. bind_holds (h.type n.1)
-      (λ t g. bind_holds (after_sign_sound signs.Assign t.1) (λ a e. bind_holds (h.expr 5 a) (λ x gx. bind_holds (after_sign_sound signs.Semicolon x.1) (λ z s.
-      some_holds _ _ ((ts, l.later, n.1, t.1, a, x.1, at, l.name, l.colon, g.reads, e, gx.reads, s), omega (arith, g.low, gx.low)))))))
+      (λ t g. bind_holds (after_sign_sound signs.Assign t.1)
+      (λ a e. bind_holds (h.expr 5 a) (λ x gx. bind_holds (after_sign_sound signs.Semicolon x.1) (λ z s.
+      some_holds _ _ (
+        (ts, l.later, n.1, t.1, a, x.1, at, l.name, l.colon, g.reads, e, gx.reads, s),
+        omega (arith, g.low, gx.low),
+      ))))))
 
   typedef_sound : (ts0 : List Token) (p : Place) (ts : List Token) → At p (kinds.Word words.Type) ts0 ts
       → Holds (typedef_at text r p ts) (ParsedStm text (suc d) ts0)
   unfolding typedef_at ReadsStm stm_height
   typedef_sound ts0 p ts at =
       bind_holds (name_sound text ts)
-      (λ n l. bind_holds (after_sign_sound signs.Assign n.1) (λ a e. bind_holds (h.type a) (λ t g. bind_holds (after_sign_sound signs.Semicolon t.1) (λ z s.
+      (λ n l. bind_holds (after_sign_sound signs.Assign n.1)
+      (λ a e. bind_holds (h.type a) (λ t g. bind_holds (after_sign_sound signs.Semicolon t.1) (λ z s.
       some_holds _ _ ((ts, n.1, a, t.1, at, l, e, g.reads, s), omega (arith, g.low))))))
 
   not_else : (ts : List Token) → after_word words.Else ts ≡ None → NotElse ts
   not_else ts e rest w = let is : after_word words.Else ts ≡ Some rest = after_word_is words.Else ts rest w in cc
 
-  if_sound : (ts0 : List Token) (p : Place) (ts : List Token) → At p (kinds.Word words.If) ts0 ts → Holds (if_at r p ts) (ParsedStm text (suc d) ts0)
+  if_sound : (ts0 : List Token) (p : Place) (ts : List Token) → At p (kinds.Word words.If) ts0 ts
+      → Holds (if_at r p ts) (ParsedStm text (suc d) ts0)
   unfolding if_at ReadsStm stm_height
   if_sound ts0 p ts at =
-      bind_holds (condition_sound text r.expr d h.expr ts) (λ c gc. bind_holds (h.stm c.1) (λ s gs. chosen_holds (after_word_sound words.Else s.1)
-      (λ e. some_holds _ _
-      ((ts, c.1, at, (gc.inner, gc.closed.later, gc.opens, gc.closed.reads, gc.closed.closes), gs.0, not_else s.1 e), omega (arith, gc.closed.low, gs.1)))
+      bind_holds (condition_sound text r.expr d h.expr ts)
+      (λ c gc. bind_holds (h.stm c.1) (λ s gs. chosen_holds (after_word_sound words.Else s.1)
+      (λ e. some_holds _ _ (
+        (ts, c.1, at, (gc.inner, gc.closed.later, gc.opens, gc.closed.reads, gc.closed.closes), gs.0, not_else s.1 e),
+        omega (arith, gc.closed.low, gs.1),
+      ))
       (λ g el. bind_holds (h.stm g)
       (λ t gt. some_holds _ _ (
         (ts, c.1, s.1, g, at, (gc.inner, gc.closed.later, gc.opens, gc.closed.reads, gc.closed.closes), gs.0, el, gt.0),
         omega (arith, gc.closed.low, gs.1, gt.1),
       )))))
 
-  while_sound : (ts0 : List Token) (p : Place) (ts : List Token) → At p (kinds.Word words.While) ts0 ts → Holds (while_at r p ts) (ParsedStm text (suc d) ts0)
+  while_sound : (ts0 : List Token) (p : Place) (ts : List Token) → At p (kinds.Word words.While) ts0 ts
+      → Holds (while_at r p ts) (ParsedStm text (suc d) ts0)
   unfolding while_at ReadsStm stm_height
-  while_sound ts0 p ts at = bind_holds (condition_sound text r.expr d h.expr ts) (λ c gc. bind_holds (h.stm c.1) (λ s gs.
-      some_holds _ _ ((ts, c.1, at, (gc.inner, gc.closed.later, gc.opens, gc.closed.reads, gc.closed.closes), gs.0), omega (arith, gc.closed.low, gs.1))))
+  while_sound ts0 p ts at =
+      bind_holds (condition_sound text r.expr d h.expr ts) (λ c gc. bind_holds (h.stm c.1) (λ s gs.
+      some_holds _ _ (
+        (ts, c.1, at, (gc.inner, gc.closed.later, gc.opens, gc.closed.reads, gc.closed.closes), gs.0),
+        omega (arith, gc.closed.low, gs.1),
+      )))
 
-  do_sound : (ts0 : List Token) (p : Place) (ts : List Token) → At p (kinds.Word words.Do) ts0 ts → Holds (do_at r p ts) (ParsedStm text (suc d) ts0)
+  do_sound : (ts0 : List Token) (p : Place) (ts : List Token) → At p (kinds.Word words.Do) ts0 ts
+      → Holds (do_at r p ts) (ParsedStm text (suc d) ts0)
   unfolding do_at ReadsStm stm_height
   do_sound ts0 p ts at =
       bind_holds (h.stm ts)
       (λ s gs. bind_holds (after_word_sound words.While s.1)
-      (λ a w. bind_holds (condition_sound text r.expr d h.expr a) (λ c gc. bind_holds (after_sign_sound signs.Semicolon c.1) (λ z e.
+      (λ a w. bind_holds (condition_sound text r.expr d h.expr a)
+      (λ c gc. bind_holds (after_sign_sound signs.Semicolon c.1) (λ z e.
       some_holds _ _ (
         (ts, s.1, a, c.1, at, gs.0, w, (gc.inner, gc.closed.later, gc.opens, gc.closed.reads, gc.closed.closes), e),
         omega (arith, gc.closed.low, gs.1),
@@ -190,7 +220,8 @@ module _ (text : Spelling) (r : Readers) (d : ℕ) (h : AreSound text r d) where
   expr_low : (ts : List Token) → Holds (r.expr 5 ts) (λ x. Low (Reads text) height d x.0 ts x.1)
   expr_low ts = weaker (h.expr 5 ts) (λ x g. (g.reads, g.low))
 
-  for_sound : (ts0 : List Token) (p : Place) (ts : List Token) → At p (kinds.Word words.For) ts0 ts → Holds (for_at r p ts) (ParsedStm text (suc d) ts0)
+  for_sound : (ts0 : List Token) (p : Place) (ts : List Token) → At p (kinds.Word words.For) ts0 ts
+      → Holds (for_at r p ts) (ParsedStm text (suc d) ts0)
   unfolding for_at ReadsStm stm_height
   for_sound ts0 p ts at =
       bind_holds (after_sign_sound signs.OpenParen ts)
@@ -200,43 +231,58 @@ module _ (text : Spelling) (r : Readers) (d : ℕ) (h : AreSound text r d) where
       (λ c gc. bind_holds (after_sign_sound signs.Semicolon c.1) (λ g c2.
       bind_holds (unless_sound (ReadsSimple text) simple_height d signs.CloseParen r.simple g (h.simple g))
       (λ t gt. bind_holds (after_sign_sound signs.CloseParen t.1) (λ k c3. bind_holds (h.stm k) (λ s gs.
-      some_holds _ _ ((ts, a, f.1, b, c.1, g, t.1, k, at, o, gf.0, c1, gc.0, c2, gt.0, c3, gs.0), omega (arith, gf.1, gc.1, gt.1, gs.1))))))))))
+      some_holds _ _ (
+        (ts, a, f.1, b, c.1, g, t.1, k, at, o, gf.0, c1, gc.0, c2, gt.0, c3, gs.0),
+        omega (arith, gf.1, gc.1, gt.1, gs.1),
+      )))))))))
 
-  break_sound : (ts0 : List Token) (p : Place) (ts : List Token) → At p (kinds.Word words.Break) ts0 ts → Holds (break_at p ts) (ParsedStm text (suc d) ts0)
+  break_sound : (ts0 : List Token) (p : Place) (ts : List Token) → At p (kinds.Word words.Break) ts0 ts
+      → Holds (break_at p ts) (ParsedStm text (suc d) ts0)
   unfolding break_at ReadsStm stm_height
-  break_sound ts0 p ts at = bind_holds (after_sign_sound signs.Semicolon ts) (λ z c. some_holds _ _ ((ts, at, c), omega arith))
+  break_sound ts0 p ts at =
+      bind_holds (after_sign_sound signs.Semicolon ts) (λ z c. some_holds _ _ ((ts, at, c), omega arith))
 
   continue_sound : (ts0 : List Token) (p : Place) (ts : List Token) → At p (kinds.Word words.Continue) ts0 ts
       → Holds (continue_at p ts) (ParsedStm text (suc d) ts0)
   unfolding continue_at ReadsStm stm_height
-  continue_sound ts0 p ts at = bind_holds (after_sign_sound signs.Semicolon ts) (λ z c. some_holds _ _ ((ts, at, c), omega arith))
+  continue_sound ts0 p ts at =
+      bind_holds (after_sign_sound signs.Semicolon ts) (λ z c. some_holds _ _ ((ts, at, c), omega arith))
 
   return_sound : (ts0 : List Token) (p : Place) (ts : List Token) → At p (kinds.Word words.Return) ts0 ts
       → Holds (return_at r p ts) (ParsedStm text (suc d) ts0)
   unfolding return_at ReadsStm stm_height
   return_sound ts0 p ts at =
       bind_holds (unless_sound (Reads text) height d signs.Semicolon (r.expr 5) ts (expr_low ts))
-      (λ e ge. bind_holds (after_sign_sound signs.Semicolon e.1) (λ z c. some_holds _ _ ((ts, e.1, at, ge.0, c), omega (arith, ge.1))))
+      (λ e ge. bind_holds (after_sign_sound signs.Semicolon e.1)
+      (λ z c. some_holds _ _ ((ts, e.1, at, ge.0, c), omega (arith, ge.1))))
 
-  emit_sound : (ts0 : List Token) (p : Place) (ts : List Token) → At p (kinds.Word words.Emit) ts0 ts → Holds (emit_at text r p ts) (ParsedStm text (suc d) ts0)
+  emit_sound : (ts0 : List Token) (p : Place) (ts : List Token) → At p (kinds.Word words.Emit) ts0 ts
+      → Holds (emit_at text r p ts) (ParsedStm text (suc d) ts0)
   unfolding emit_at ReadsStm stm_height
   emit_sound ts0 p ts at =
       bind_holds (name_sound text ts)
       (λ n l. bind_holds (all_sound (index_item text r.expr d h.expr) n.1)
       (λ i m. bind_holds (after_sign_sound signs.Arrow i.1) (λ a ar. bind_holds (h.expr 5 a) (λ x gx.
-      bind_holds (weight_sound text r.expr d h.expr x.1) (λ w gw. bind_holds (after_sign_sound signs.Semicolon w.1) (λ z c.
+      bind_holds (weight_sound text r.expr d h.expr x.1)
+      (λ w gw. bind_holds (after_sign_sound signs.Semicolon w.1) (λ z c.
       let is = many_split (ReadsIndex text) height d i.0 n.1 i.1 m in
-      some_holds _ _ ((i.0, ts, n.1, i.1, a, x.1, w.1, refl, at, l, is.0, ar, gx.reads, gw.0, c), omega (arith, is.1, exps_heights i.0, gx.low, gw.1))))))))
+      some_holds _ _ (
+        (i.0, ts, n.1, i.1, a, x.1, w.1, refl, at, l, is.0, ar, gx.reads, gw.0, c),
+        omega (arith, is.1, exps_heights i.0, gx.low, gw.1),
+      )))))))
 
-  when_sound : (ts0 : List Token) (p : Place) (ts : List Token) → At p (kinds.Word words.When) ts0 ts → Holds (when_at text r p ts) (ParsedStm text (suc d) ts0)
+  when_sound : (ts0 : List Token) (p : Place) (ts : List Token) → At p (kinds.Word words.When) ts0 ts
+      → Holds (when_at text r p ts) (ParsedStm text (suc d) ts0)
   unfolding when_at ReadsStm stm_height
   when_sound ts0 p ts at =
       bind_holds (after_sign_sound signs.OpenParen ts)
       (λ a o. bind_holds (quantifiers_sound text r.type d h.type a)
-      (λ q gq. bind_holds (h.expr 5 q.1) (λ c gc. bind_holds (after_sign_sound signs.CloseParen c.1) (λ b cl. bind_holds (h.stm b) (λ s gs.
+      (λ q gq. bind_holds (h.expr 5 q.1)
+      (λ c gc. bind_holds (after_sign_sound signs.CloseParen c.1) (λ b cl. bind_holds (h.stm b) (λ s gs.
       some_holds _ _ ((ts, a, q.1, c.1, b, at, o, gq.0, gc.reads, cl, gs.0), omega (arith, gq.1, gc.low, gs.1)))))))
 
-  stm_here_sound : (t : Token) (ts : List Token) → Holds (stm_here text r d t t.kind ts) (ParsedStm text (suc d) (t ∷ ts))
+  stm_here_sound : (t : Token) (ts : List Token)
+      → Holds (stm_here text r d t t.kind ts) (ParsedStm text (suc d) (t ∷ ts))
   unfolding ReadsStm stm_height
   stm_here_sound t ts = go t.kind refl
     where
@@ -248,7 +294,8 @@ module _ (text : Spelling) (r : Readers) (d : ℕ) (h : AreSound text r d) where
       sign signs.OpenBrace e = block_sound (t ∷ ts) t.place ts (at _ e)
       sign _ e = none_holds _
 
-      word : (w : Word) → t.kind ≡ kinds.Word w → Holds (stm_worded text r t.place w ts) (ParsedStm text (suc d) (t ∷ ts))
+      word : (w : Word) → t.kind ≡ kinds.Word w
+          → Holds (stm_worded text r t.place w ts) (ParsedStm text (suc d) (t ∷ ts))
       word words.Static e = static_sound (t ∷ ts) t.place ts (at _ e)
       word words.Type e = typedef_sound (t ∷ ts) t.place ts (at _ e)
       word words.If e = if_sound (t ∷ ts) t.place ts (at _ e)
@@ -277,13 +324,24 @@ pub stm_sound : (text : Spelling) (d : ℕ) → IsSoundStm text (stm_at text d) 
 unfolding stm_at
 stm_sound text zero ts = none_holds _
 stm_sound text (suc d) ts =
-    step_sound text _ d (record
-    { expr = expr_sound text d; type = type_sound text d; simple = simple_at_sound text d; first = first_at_sound text d; stm = stm_sound text d }) ts
+    step_sound text _ d (record {
+      expr = expr_sound text d;
+      type = type_sound text d;
+      simple = simple_at_sound text d;
+      first = first_at_sound text d;
+      stm = stm_sound text d;
+    }) ts
 
 -- what is known of the readers of the parts
 are_sound : (text : Spelling) (d : ℕ) → AreSound text (readers_at text d) d
 are_sound text d =
-    record { expr = expr_sound text d; type = type_sound text d; simple = simple_at_sound text d; first = first_at_sound text d; stm = stm_sound text d }
+    record {
+      expr = expr_sound text d;
+      type = type_sound text d;
+      simple = simple_at_sound text d;
+      first = first_at_sound text d;
+      stm = stm_sound text d;
+    }
 
 pub stms_item : (text : Spelling) (d : ℕ) → IsItem (stm_step (stm_at text d)) (Low (ReadsStm text) stm_height d)
 stms_item text d = stm_item text (readers_at text d) d (are_sound text d)

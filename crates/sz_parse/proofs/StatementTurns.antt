@@ -20,12 +20,14 @@ same_read (Some y) = refl
 same_read None = refl
 
 -- nothing before the items
-pub all_start : {A : Type 0} (step : List Token → Option (Read A)) (ts : List Token) → with_items [] (all_at step ts) ≡ all_at step ts
+pub all_start : {A : Type 0} (step : List Token → Option (Read A)) (ts : List Token)
+    → with_items [] (all_at step ts) ≡ all_at step ts
 unfolding with_items
 all_start step ts = same_read (all_at step ts)
 
 -- what stands after one of two tokens
-pick_here : {A : Type 0} (f g : List Token → Option A) (o p : Option (List Token)) (r : List Token) → choose o p (λ r. Some r) ≡ Some r
+pick_here : {A : Type 0} (f g : List Token → Option A) (o p : Option (List Token)) (r : List Token)
+    → choose o p (λ r. Some r) ≡ Some r
     → choose o (choose p None (λ a. Some (f a))) (λ a. Some (g a)) ≡ Some (choose o (bind p f) g)
 unfolding choose bind
 pick_here f g (Some x) p r e = refl
@@ -39,7 +41,8 @@ pick_gone f g (Some x) p e = absurd cc
 pick_gone f g None (Some y) e = absurd cc
 pick_gone f g None None e = refl
 
-pub index_here : (sub : Sub) (ts after : List Token) → after_sign signs.OpenBracket ts ≡ Some after → index_step sub ts ≡ Some (index_at sub after)
+pub index_here : (sub : Sub) (ts after : List Token) → after_sign signs.OpenBracket ts ≡ Some after
+    → index_step sub ts ≡ Some (index_at sub after)
 unfolding index_step
 index_here sub ts after c = choose_some _ _ _ _ _ c refl
 
@@ -84,7 +87,8 @@ module _ (text : Spelling) (ty : SubType) where
   unfolding table_index_step after_sign choose
   no_table_index_at_end = refl
 
-  pub quantifier_here : (ts r : List Token) → begins_quantifier text ts ≡ Some r → quantifier_step text ty ts ≡ Some (quantifier_at text ty ts)
+  pub quantifier_here : (ts r : List Token) → begins_quantifier text ts ≡ Some r
+      → quantifier_step text ty ts ≡ Some (quantifier_at text ty ts)
   unfolding quantifier_step
   quantifier_here ts r c = choose_some _ _ _ _ _ c refl
 
@@ -96,12 +100,14 @@ module _ (text : Spelling) (ty : SubType) where
   unfolding quantifier_step begins_quantifier name_at choose bind
   no_quantifier_at_end = refl
 
-  pub quantifiers_start : (q : QuantifierForm) (ts : List Token) → with_items (q ∷ []) (all_at (quantifier_step text ty) ts) ≡ quantifiers_after text ty q ts
+  pub quantifiers_start : (q : QuantifierForm) (ts : List Token)
+      → with_items (q ∷ []) (all_at (quantifier_step text ty) ts) ≡ quantifiers_after text ty q ts
   unfolding with_items quantifiers_after
   quantifiers_start q ts = refl
 
 module _ (text : Spelling) where
-  pub name_here : (ts after : List Token) → after_sign signs.Comma ts ≡ Some after → name_step text ts ≡ Some (name_at text after)
+  pub name_here : (ts after : List Token) → after_sign signs.Comma ts ≡ Some after
+      → name_step text ts ≡ Some (name_at text after)
   unfolding name_step
   name_here ts after c = choose_some _ _ _ _ _ c refl
 
@@ -113,7 +119,8 @@ module _ (text : Spelling) where
   unfolding name_step after_sign choose
   no_name_at_end = refl
 
-  pub names_start : (n : Ident) (ts : List Token) → with_items (n ∷ []) (all_at (name_step text) ts) ≡ names_later text n ts
+  pub names_start : (n : Ident) (ts : List Token)
+      → with_items (n ∷ []) (all_at (name_step text) ts) ≡ names_later text n ts
   unfolding with_items names_later
   names_start n ts = refl
 
@@ -126,7 +133,8 @@ stm_begun (t ∷ ts) b e = go (after_sign signs.CloseBrace (t ∷ ts)) e
     go (Some x) e = absurd cc
     go None e = cc
 
-pub stm_is_here : (st : List Token → Read Stm) (ts b : List Token) → begins_stm ts ≡ Some b → stm_step st ts ≡ Some (st ts)
+pub stm_is_here : (st : List Token → Read Stm) (ts b : List Token) → begins_stm ts ≡ Some b
+    → stm_step st ts ≡ Some (st ts)
 unfolding stm_step
 stm_is_here st ts b e = choose_some _ _ _ _ _ e (ap (λ (u : List Token). Some (st u)) (stm_begun ts b e))
 
@@ -139,6 +147,7 @@ unfolding stm_step begins_stm choose
 no_stm_at_end st = refl
 
 -- a statement of some height is what a token begins, with parts that are one level lower
-pub stm_deeper : (text : Spelling) (d n : ℕ) (ts : List Token) → n ≡ d + 1 → stm_at text n ts ≡ step_at text (readers_at text d) d ts
+pub stm_deeper : (text : Spelling) (d n : ℕ) (ts : List Token) → n ≡ d + 1
+    → stm_at text n ts ≡ step_at text (readers_at text d) d ts
 unfolding stm_at
 stm_deeper text d n ts is = let up : n ≡ suc d = omega (arith, is) in ap (λ k. stm_at text k ts) up

@@ -16,7 +16,8 @@ IsRead tokens = ((ss : Stms) × Spells tokens ss) ⊎ ((p : Place) × IsStuck to
 
 module _ (tokens : Lexed) where
   abbrev Front : List Stm → List Token → Type 0
-  Front front rest = ReadsStms (lexeme_of tokens.text) (stms_of front) tokens.tokens rest × (stm_heights (stms_of front) ≤ MAX_HEIGHT)
+  Front front rest = ReadsStms (lexeme_of tokens.text) (stms_of front) tokens.tokens rest
+      × (stm_heights (stms_of front) ≤ MAX_HEIGHT)
 
   -- where a statement begins, what it leaves is read on; where none begins, the tokens are stuck
   turn : (n : ℕ) (front : List Stm) (t : Token) (ts : List Token) → length ts < n → Front front (t ∷ ts)
@@ -36,4 +37,5 @@ module _ (tokens : Lexed) where
 
 pub every_list_is_read : EveryListIsRead
 unfolding ReadsStm stm_height
-every_list_is_read tokens = read_on tokens (suc (length tokens.tokens)) [] tokens.tokens (omega arith) (refl, omega arith)
+every_list_is_read tokens =
+    read_on tokens (suc (length tokens.tokens)) [] tokens.tokens (omega arith) (refl, omega arith)

@@ -14,10 +14,11 @@ use Rattle.sz_parse.proofs.StatementComplete.{stm_complete}
 
 module _ (text : Spelling) where
   -- tokens begin with one statement at most
-  one_stm : (s q : Stm) (ts a b : List Token) → ReadsStm text s ts a → stm_height s ≤ MAX_HEIGHT → ReadsStm text q ts b → stm_height q ≤ MAX_HEIGHT
-      → (s ≡ q) × (a ≡ b)
+  one_stm : (s q : Stm) (ts a b : List Token) → ReadsStm text s ts a → stm_height s ≤ MAX_HEIGHT
+      → ReadsStm text q ts b → stm_height q ≤ MAX_HEIGHT → (s ≡ q) × (a ≡ b)
   one_stm s q ts a b rs low rq lowq =
-      let e : (s, a) ≡ (q, b) = some_is (sym (stm_complete text MAX_HEIGHT s ts a rs low) ∙ stm_complete text MAX_HEIGHT q ts b rq lowq) in
+      let e : (s, a) ≡ (q, b) =
+      some_is (sym (stm_complete text MAX_HEIGHT s ts a rs low) ∙ stm_complete text MAX_HEIGHT q ts b rq lowq) in
       (ap (λ (x : Stm × List Token). x.0) e, ap (λ (x : Stm × List Token). x.1) e)
 
   -- what stands where no statement begins
@@ -25,8 +26,9 @@ module _ (text : Spelling) where
   IsStop ts = (s : Stm) (after : List Token) → ReadsStm text s ts after → stm_height s ≤ MAX_HEIGHT → ⊥
 
   -- statements that end where none begins are the most that stand at the front
-  pub most : (front ss : Stms) (ts stop after : List Token) → ReadsStms text front ts stop → stm_heights front ≤ MAX_HEIGHT → IsStop stop
-      → ReadsStms text ss ts after → stm_heights ss ≤ MAX_HEIGHT → (count_of ss ≤ count_of front) × (length stop ≤ length after)
+  pub most : (front ss : Stms) (ts stop after : List Token) → ReadsStms text front ts stop
+      → stm_heights front ≤ MAX_HEIGHT → IsStop stop → ReadsStms text ss ts after → stm_heights ss ≤ MAX_HEIGHT
+      → (count_of ss ≤ count_of front) × (length stop ≤ length after)
   unfolding ReadsStm stm_height
   most no_stms no_stms ts stop after rf lowf none rs low = (omega arith, omega (arith, ap length rf, ap length rs))
   most no_stms (stm s ss) ts stop after rf lowf none rs low = absurd (none s rs.0 (rw (← rf) rs.1) (omega arith))
@@ -38,8 +40,8 @@ module _ (text : Spelling) where
       (omega (arith, m.0), m.1)
 
   -- of two places where none begins, both are one
-  one_stop : (f g : Stms) (ts a b : List Token) → ReadsStms text f ts a → stm_heights f ≤ MAX_HEIGHT → IsStop a → ReadsStms text g ts b
-      → stm_heights g ≤ MAX_HEIGHT → IsStop b → (f ≡ g) × (a ≡ b)
+  one_stop : (f g : Stms) (ts a b : List Token) → ReadsStms text f ts a → stm_heights f ≤ MAX_HEIGHT → IsStop a
+      → ReadsStms text g ts b → stm_heights g ≤ MAX_HEIGHT → IsStop b → (f ≡ g) × (a ≡ b)
   unfolding ReadsStm stm_height
   one_stop no_stms no_stms ts a b rf lowf na rg lowg nb = (refl, sym rf ∙ rg)
   one_stop no_stms (stm s g) ts a b rf lowf na rg lowg nb = absurd (na s rg.0 (rw (← rf) rg.1) (omega arith))
@@ -67,4 +69,7 @@ one_place tokens p q a b =
     sym a.place ∙ ap (λ (t : Token). t.place) here ∙ b.place
 
 pub not_both : (tokens : Lexed) (ss : Stms) (p : Place) → Spells tokens ss → IsStuck tokens p → ⊥
-not_both tokens ss p b a = omega (arith, (most (lexeme_of tokens.text) a.front ss tokens.tokens (a.here ∷ a.rest) [] a.reads a.low a.none b.reads b.low).1)
+not_both tokens ss p b a = omega (
+  arith,
+  (most (lexeme_of tokens.text) a.front ss tokens.tokens (a.here ∷ a.rest) [] a.reads a.low a.none b.reads b.low).1,
+)

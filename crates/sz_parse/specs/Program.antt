@@ -28,9 +28,10 @@ pub record IsStuck (tokens : Lexed) (p : Place) : Type 0 where
   pub reads : ReadsStms (lexeme_of tokens.text) front tokens.tokens (here ∷ rest)
   pub low : stm_heights front ≤ greatest_height
   pub place : here.place ≡ p
-  pub none : (s : Stm) (after : List Token) → ReadsStm (lexeme_of tokens.text) s (here ∷ rest) after → stm_height s ≤ greatest_height → ⊥
-  pub longest : (ss : Stms) (after : List Token) → ReadsStms (lexeme_of tokens.text) ss tokens.tokens after → stm_heights ss ≤ greatest_height
-      → count_of ss ≤ count_of front
+  pub none : (s : Stm) (after : List Token) → ReadsStm (lexeme_of tokens.text) s (here ∷ rest) after
+      → stm_height s ≤ greatest_height → ⊥
+  pub longest : (ss : Stms) (after : List Token) → ReadsStms (lexeme_of tokens.text) ss tokens.tokens after
+      → stm_heights ss ≤ greatest_height → count_of ss ≤ count_of front
 
 -- a list of tokens spells one tree at most
 abbrev pub SpellsOneTree : Type 0

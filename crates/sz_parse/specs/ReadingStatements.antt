@@ -50,7 +50,8 @@ index_step sub ts = choose (after_sign signs.OpenBracket ts) None (λ a. Some (i
 -- a step of a path
 unfoldable pub path_step : Spelling → Sub → List Token → Option (Read StepForm)
 path_step text sub ts =
-    choose (after_sign signs.OpenBracket ts) (choose (after_sign signs.Dot ts) None (λ a. Some (name_at text a >>= λ n. Some (at_field n.0, n.1))))
+    choose (after_sign signs.OpenBracket ts)
+    (choose (after_sign signs.Dot ts) None (λ a. Some (name_at text a >>= λ n. Some (at_field n.0, n.1))))
     (λ a. Some (index_at sub a >>= λ x. Some (at_index x.0, x.1)))
 
 -- what follows the bracket or dot with which a step of a path begins
@@ -66,7 +67,8 @@ step_item text sub ts =
 -- an assignment, a step up or down, or a call, after its name; d is how high its parts may be
 unfoldable pub assign_at : Spelling → Sub → Ident → List Token → Read SimpleForm
 assign_at text sub n ts =
-    all_at (path_step text sub) ts >>= λ y. after_sign signs.Assign y.1 >>= λ a. sub 5 a >>= λ x. Some (assign (record { name = n; steps = y.0 }) x.0, x.1)
+    all_at (path_step text sub) ts >>= λ y. after_sign signs.Assign y.1 >>= λ a. sub 5 a
+    >>= λ x. Some (assign (record { name = n; steps = y.0 }) x.0, x.1)
 
 unfoldable pub simple_after : Spelling → Sub → ℕ → Ident → List Token → Read SimpleForm
 simple_after text sub d n ts =
@@ -131,20 +133,22 @@ declared_at text ty ts = choose (after_sign signs.CloseParen ts) (params_at text
 -- the parameters of a function, with the signs around them
 unfoldable pub parameters_at : Spelling → SubType → List Token → Read (List (Ident × Typ))
 parameters_at text ty ts =
-    after_sign signs.OpenParen ts >>= λ a. declared_at text ty a >>= λ ps. after_sign signs.CloseParen ps.1 >>= λ b. after_sign signs.Colon b >>= λ c.
-    Some (ps.0, c)
+    after_sign signs.OpenParen ts >>= λ a. declared_at text ty a >>= λ ps. after_sign signs.CloseParen ps.1
+    >>= λ b. after_sign signs.Colon b >>= λ c. Some (ps.0, c)
 
 unfoldable pub function_at : Spelling → Readers → Ident → List Token → Read Stm
 function_at text r n ts =
-    after_sign signs.OpenParen ts >>= λ a. declared_at text r.type a >>= λ ps. after_sign signs.CloseParen ps.1 >>= λ b. after_sign signs.Colon b >>= λ c.
-    r.type c >>= λ t. after_sign signs.OpenBrace t.1 >>= λ f. body_at r.stm f >>= λ y. Some (function n (params_of ps.0) t.0 (stms_of y.0), y.1)
+    after_sign signs.OpenParen ts >>= λ a. declared_at text r.type a >>= λ ps. after_sign signs.CloseParen ps.1
+    >>= λ b. after_sign signs.Colon b >>= λ c. r.type c >>= λ t. after_sign signs.OpenBrace t.1
+    >>= λ f. body_at r.stm f >>= λ y. Some (function n (params_of ps.0) t.0 (stms_of y.0), y.1)
 
 unfoldable pub table_stm_at : Spelling → Readers → Ident → List Token → Read Stm
 table_stm_at text r n ts = table_at text r.type ts >>= λ t. Some (table n t.0, t.1)
 
 unfoldable pub colon_at : Spelling → Readers → Ident → List Token → Read Stm
 colon_at text r n ts =
-    choose (after_word words.Table ts) (choose (after_word words.Function ts) (declare_at r n ts) (λ a. function_at text r n a)) (λ a. table_stm_at text r n a)
+    choose (after_word words.Table ts) (choose (after_word words.Function ts) (declare_at r n ts)
+    (λ a. function_at text r n a)) (λ a. table_stm_at text r n a)
 
 unfoldable pub define_at : Readers → Ident → List Token → Read Stm
 define_at r n ts = r.expr 5 ts >>= λ x. after_sign signs.Semicolon x.1 >>= λ z. Some (define n x.0, z)
@@ -155,7 +159,8 @@ simple_stm_at text r d n ts = simple_after text r.expr d n ts >>= λ s. after_si
 -- what a name begins
 unfoldable pub named_stm_at : Spelling → Readers → ℕ → Ident → List Token → Read Stm
 named_stm_at text r d n ts =
-    choose (after_sign signs.Colon ts) (choose (after_sign signs.Define ts) (simple_stm_at text r d n ts) (λ a. define_at r n a)) (λ a. colon_at text r n a)
+    choose (after_sign signs.Colon ts) (choose (after_sign signs.Define ts) (simple_stm_at text r d n ts)
+    (λ a. define_at r n a)) (λ a. colon_at text r n a)
 
 -- the statements after their first word
 unfoldable pub static_at : Spelling → Readers → Place → List Token → Read Stm
@@ -165,7 +170,8 @@ static_at text r p ts =
 
 unfoldable pub typedef_at : Spelling → Readers → Place → List Token → Read Stm
 typedef_at text r p ts =
-    name_at text ts >>= λ n. after_sign signs.Assign n.1 >>= λ a. r.type a >>= λ t. after_sign signs.Semicolon t.1 >>= λ z. Some (typedef p n.0 t.0, z)
+    name_at text ts >>= λ n. after_sign signs.Assign n.1 >>= λ a. r.type a >>= λ t. after_sign signs.Semicolon t.1
+    >>= λ z. Some (typedef p n.0 t.0, z)
 
 unfoldable pub if_at : Readers → Place → List Token → Read Stm
 if_at r p ts =
@@ -178,7 +184,8 @@ while_at r p ts = condition_at r.expr ts >>= λ c. r.stm c.1 >>= λ s. Some (whi
 
 unfoldable pub do_at : Readers → Place → List Token → Read Stm
 do_at r p ts =
-    r.stm ts >>= λ s. after_word words.While s.1 >>= λ a. condition_at r.expr a >>= λ c. after_sign signs.Semicolon c.1 >>= λ z. Some (do_while p s.0 c.0, z)
+    r.stm ts >>= λ s. after_word words.While s.1 >>= λ a. condition_at r.expr a
+    >>= λ c. after_sign signs.Semicolon c.1 >>= λ z. Some (do_while p s.0 c.0, z)
 
 unfoldable pub for_at : Readers → Place → List Token → Read Stm
 for_at r p ts =
@@ -198,12 +205,14 @@ return_at r p ts = unless_at signs.Semicolon (r.expr 5) ts >>= λ e. after_sign 
 
 unfoldable pub emit_at : Spelling → Readers → Place → List Token → Read Stm
 emit_at text r p ts =
-    name_at text ts >>= λ n. all_at (index_step r.expr) n.1 >>= λ i. after_sign signs.Arrow i.1 >>= λ a. r.expr 5 a >>= λ x. weight_at r.expr x.1 >>= λ w.
+    name_at text ts >>= λ n. all_at (index_step r.expr) n.1 >>= λ i. after_sign signs.Arrow i.1 >>= λ a. r.expr 5 a
+    >>= λ x. weight_at r.expr x.1 >>= λ w.
     after_sign signs.Semicolon w.1 >>= λ z. Some (emit p n.0 (exps_of i.0) x.0 w.0, z)
 
 unfoldable pub when_at : Spelling → Readers → Place → List Token → Read Stm
 when_at text r p ts =
-    after_sign signs.OpenParen ts >>= λ a. quantifiers_at text r.type a >>= λ q. r.expr 5 q.1 >>= λ c. after_sign signs.CloseParen c.1 >>= λ b. r.stm b >>= λ s.
+    after_sign signs.OpenParen ts >>= λ a. quantifiers_at text r.type a >>= λ q. r.expr 5 q.1
+    >>= λ c. after_sign signs.CloseParen c.1 >>= λ b. r.stm b >>= λ s.
     Some (when p q.0 c.0 s.0, s.1)
 
 abbrev pub stm_bracketed : Readers → Place → Sign → List Token → Read Stm
@@ -240,8 +249,20 @@ step_at text r d (t ∷ ts) = stm_here text r d t t.kind ts
 unfoldable pub stm_at : Spelling → ℕ → List Token → Read Stm
 stm_at text zero ts = None
 stm_at text (suc d) ts =
-    step_at text (record { expr = expr_at text d; type = type_at text d; simple = simple_at text d; first = first_at text d; stm = stm_at text d }) d ts
+    step_at text (record {
+      expr = expr_at text d;
+      type = type_at text d;
+      simple = simple_at text d;
+      first = first_at text d;
+      stm = stm_at text d;
+    }) d ts
 
 -- the readers of the parts of a statement whose parts are at most this high
 abbrev pub readers_at : Spelling → ℕ → Readers
-readers_at text d = record { expr = expr_at text d; type = type_at text d; simple = simple_at text d; first = first_at text d; stm = stm_at text d }
+readers_at text d = record {
+  expr = expr_at text d;
+  type = type_at text d;
+  simple = simple_at text d;
+  first = first_at text d;
+  stm = stm_at text d;
+}

@@ -17,7 +17,8 @@ use Rattle.sz_parse_expr.specs.ReadingTypes.{SubType, number_at, elem_at}
 -- the parts of a table
 unfoldable pub argument_at : List Token → Read (Option ℤ)
 argument_at ts =
-    choose (after_sign signs.OpenParen ts) (Some (None, ts)) (λ a. number_at a >>= λ n. after_sign signs.CloseParen n.1 >>= λ r. Some (Some n.0, r))
+    choose (after_sign signs.OpenParen ts) (Some (None, ts))
+    (λ a. number_at a >>= λ n. after_sign signs.CloseParen n.1 >>= λ r. Some (Some n.0, r))
 
 unfoldable pub table_index_at : Spelling → SubType → List Token → Read ElemForm
 table_index_at text ty ts = elem_at text ty ts >>= λ e. after_sign signs.CloseBracket e.1 >>= λ r. Some (e.0, r)
@@ -26,16 +27,19 @@ unfoldable pub table_index_step : Spelling → SubType → List Token → Option
 table_index_step text ty ts = choose (after_sign signs.OpenBracket ts) None (λ a. Some (table_index_at text ty a))
 
 unfoldable pub table_weight_at : Spelling → SubType → List Token → Read (Option ElemForm)
-table_weight_at text ty ts = choose (after_word words.Weight ts) (Some (None, ts)) (λ a. elem_at text ty a >>= λ e. Some (Some e.0, e.1))
+table_weight_at text ty ts =
+    choose (after_word words.Weight ts) (Some (None, ts)) (λ a. elem_at text ty a >>= λ e. Some (Some e.0, e.1))
 
 -- what a table keeps, and its weight
 unfoldable pub table_parts_at : Spelling → SubType → List Token → Read (ElemForm × Option ElemForm)
-table_parts_at text ty ts = after_word words.Of ts >>= λ o. elem_at text ty o >>= λ e. table_weight_at text ty e.1 >>= λ w. Some ((e.0, w.0), w.1)
+table_parts_at text ty ts = after_word words.Of ts >>= λ o. elem_at text ty o >>= λ e. table_weight_at text ty e.1
+    >>= λ w. Some ((e.0, w.0), w.1)
 
 -- what stands after `table`, up to the semicolon
 unfoldable pub table_at : Spelling → SubType → List Token → Read TableForm
 table_at text ty ts =
-    name_at text ts >>= λ k. argument_at k.1 >>= λ a. all_at (table_index_step text ty) a.1 >>= λ i. after_word words.Of i.1 >>= λ o.
+    name_at text ts >>= λ k. argument_at k.1 >>= λ a. all_at (table_index_step text ty) a.1
+    >>= λ i. after_word words.Of i.1 >>= λ o.
     elem_at text ty o >>= λ e. table_weight_at text ty e.1 >>= λ w. after_sign signs.Semicolon w.1 >>= λ r.
     Some (record { kind = k.0; argument = a.0; indexes = i.0; of = e.0; weight = w.0 }, r)
 
@@ -67,12 +71,13 @@ quantity_at (t ∷ ts) = quantity_here t.kind ts
 -- a quantifier with its semicolon
 unfoldable pub quantifier_at : Spelling → SubType → List Token → Read QuantifierForm
 quantifier_at text ty ts =
-    names_at text ts >>= λ n. after_sign signs.Colon n.1 >>= λ a. quantity_at a >>= λ q. ty q.1 >>= λ t. after_sign signs.Semicolon t.1 >>= λ r.
-    Some (record { names = n.0; quantity = q.0; of = t.0 }, r)
+    names_at text ts >>= λ n. after_sign signs.Colon n.1 >>= λ a. quantity_at a >>= λ q. ty q.1
+    >>= λ t. after_sign signs.Semicolon t.1 >>= λ r. Some (record { names = n.0; quantity = q.0; of = t.0 }, r)
 
 -- a name and a comma or a colon after it
 unfoldable pub begins_quantifier : Spelling → List Token → Option (List Token)
-begins_quantifier text ts = name_at text ts >>= λ n. choose (after_sign signs.Comma n.1) (after_sign signs.Colon n.1) (λ r. Some r)
+begins_quantifier text ts = name_at text ts
+    >>= λ n. choose (after_sign signs.Comma n.1) (after_sign signs.Colon n.1) (λ r. Some r)
 
 unfoldable pub quantifier_step : Spelling → SubType → List Token → Option (Read QuantifierForm)
 quantifier_step text ty ts = choose (begins_quantifier text ts) None (λ _. Some (quantifier_at text ty ts))

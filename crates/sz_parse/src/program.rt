@@ -10,7 +10,7 @@ use crate::error::ParseError;
 use crate::stmt::statement;
 use std::alloc::Global;
 use sz_lex::Tokens;
-use sz_parse_expr::{Depth, Failed};
+use sz_parse_expr::{Depth, Failed, Reader};
 use sz_tree::Tree;
 
 /// The tree that the tokens spell, of height at most `MAX_HEIGHT`. `Syntax` comes exactly where they spell none: at the first token
@@ -26,7 +26,13 @@ pub fn parse(alloc: Global, tokens: &Tokens) -> Result<Tree, ParseError>
     let text = tokens.text();
     let mut rest = tokens.as_slice();
     while let [first, ..] = rest {
-        match statement(alloc, text, Depth::GREATEST, rest) {
+        let reader = Reader {
+            alloc,
+            text,
+            tokens: rest,
+            depth: Depth::GREATEST,
+        };
+        match statement(reader) {
             Ok((tree, after)) => {
                 statements.push(tree)?;
                 rest = after;

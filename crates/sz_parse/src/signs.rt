@@ -6,9 +6,8 @@ ghost use Rattle.sz_parse_expr.specs.ReadingExpressions.{expr_at};
 ghost use Rattle.sz_parse.specs.ReadingStatements.{ended_at, after_at};
 ghost use Rattle.sz_parse_expr.specs.Outcome.{Gives};
 
-use std::alloc::Global;
 use sz_lex::{Sign, Token};
-use sz_parse_expr::{Depth, Failed, expect, expr};
+use sz_parse_expr::{Failed, Reader, expect, expr};
 use sz_tree::{Expr, Stmt};
 
 // The value, and what was read after it. Where three parts that may be missing are alive, each way out drops one value of which nothing is
@@ -38,16 +37,11 @@ pub fn ended(tree: Stmt, tokens: &[Token]) -> Result<(Stmt, &[Token]), Failed>
 
 // The expression after this sign.
 #[tactic(auto, unfolding(crate::specs::ReadingStatements::after_at, sz_parse_expr::specs::Reading::bind))]
-pub fn later<'t>(
-    alloc: Global,
-    text: &[u8],
-    inner: Depth,
-    sign: Sign,
-    tokens: &'t [Token],
-) -> Result<(Expr, &'t [Token]), Failed>
-    ensures read { Gives (λ x. (tree_of x.0, x.1.now)) result (after_at (expr_at (utf8_in text.now) inner.levels) sign tokens.now) }
+pub fn later(reader: Reader<'_>, sign: Sign) -> Result<(Expr, &[Token]), Failed>
+    ensures read { Gives (λ x. (tree_of x.0, x.1.now)) result
+        (after_at (expr_at (utf8_in reader.entry.text.now) reader.entry.depth.levels) sign reader.entry.tokens.now) }
 {
-    let rest = expect(sign, tokens)?;
-    let (tree, _, rest) = expr(alloc, text, inner, 5, rest)?;
-    Ok((tree, rest))
+    let rest = expect(sign, reader.tokens)?;
+    let part = expr(reader.at(rest), 5)?;
+    Ok((part.tree, part.rest))
 }

@@ -11,9 +11,8 @@ use crate::leaf::{
 };
 use crate::signs::{beside, ended};
 use crate::table::quantifiers;
-use std::alloc::Global;
 use sz_lex::{Kind, Sign, Token, Word};
-use sz_parse_expr::{Depth, Failed, condition, expect, expect_word, expr, ident, skip, skip_word};
+use sz_parse_expr::{Failed, Reader, condition, expect, expect_word, expr, ident, skip, skip_word};
 use sz_tree::{Name, Stmt};
 use sz_types::Place;
 
@@ -34,57 +33,44 @@ fn begins_statement(tokens: &[Token]) -> Option<&[Token]>
 // A statement of at most this height, and what follows it.
 #[cycle(statement)]
 #[tactic(auto, unfolding(crate::specs::ReadingStatements::stm_at))]
-pub fn statement<'t>(
-    alloc: Global,
-    text: &[u8],
-    depth: Depth,
-    tokens: &'t [Token],
-) -> Result<(Stmt, &'t [Token]), Failed>
-    ensures read { Gives (λ x. (stm_of x.0, x.1.now)) result (stm_at (utf8_in text.now) depth.levels tokens.now) }
+pub fn statement(reader: Reader<'_>) -> Result<(Stmt, &[Token]), Failed>
+    ensures read { Gives (λ x. (stm_of x.0, x.1.now)) result (stm_at (utf8_in reader.entry.text.now) reader.entry.depth.levels reader.entry.tokens.now) }
 {
-    let Some(inner) = depth.deeper() else {
+    let Some(depth) = reader.depth.deeper() else {
         return Err(Failed::Syntax);
     };
-    step(alloc, text, inner, tokens)
+    step(Reader { depth, ..reader })
 }
 
 // In what follows, the parts of a statement have at most the height `inner`. This reads a part.
 #[cycle(statement)]
 #[tactic(auto)]
-fn boxed<'t>(
-    alloc: Global,
-    text: &[u8],
-    inner: Depth,
-    tokens: &'t [Token],
-) -> Result<(Box<Stmt>, &'t [Token]), Failed>
-    ensures read { Gives (λ x. (stm_of x.0.value, x.1.now)) result (stm_at (utf8_in text.now) inner.levels tokens.now) }
+fn boxed(reader: Reader<'_>) -> Result<(Box<Stmt>, &[Token]), Failed>
+    ensures read { Gives (λ x. (stm_of x.0.value, x.1.now)) result (stm_at (utf8_in reader.entry.text.now) reader.entry.depth.levels reader.entry.tokens.now) }
 {
-    let (tree, rest) = statement(alloc, text, inner, tokens)?;
-    Ok((Box::new(alloc, tree)?, rest))
+    let (tree, rest) = statement(reader)?;
+    Ok((Box::new(reader.alloc, tree)?, rest))
 }
 
 // What a token begins.
 #[cycle(statement)]
 #[tactic(auto, unfolding(crate::specs::ReadingStatements::step_at, sz_parse_expr::specs::Reading::bind))]
-fn step<'t>(
-    alloc: Global,
-    text: &[u8],
-    inner: Depth,
-    tokens: &'t [Token],
-) -> Result<(Stmt, &'t [Token]), Failed>
-    ensures read { Gives (λ x. (stm_of x.0, x.1.now)) result (step_at (utf8_in text.now) (readers_at (utf8_in text.now) inner.levels) inner.levels tokens.now) }
+fn step(reader: Reader<'_>) -> Result<(Stmt, &[Token]), Failed>
+    ensures read { Gives (λ x. (stm_of x.0, x.1.now)) result (step_at (utf8_in reader.entry.text.now)
+        (readers_at (utf8_in reader.entry.text.now) reader.entry.depth.levels) reader.entry.depth.levels
+        reader.entry.tokens.now) }
 {
-    let [token, rest @ ..] = tokens else {
+    let [token, rest @ ..] = reader.tokens else {
         return Err(Failed::Syntax);
     };
     match token.kind {
         Kind::Name => {
-            let name = ident(alloc, text, token)?;
-            named(alloc, text, inner, name, rest)
+            let name = ident(reader.alloc, reader.text, token)?;
+            named(reader.at(rest), name)
         }
         Kind::Sign(Sign::Semicolon) => Ok((Stmt::Empty(token.place), rest)),
-        Kind::Sign(Sign::OpenBrace) => block(alloc, text, inner, token.place, rest),
-        Kind::Word(word) => worded(alloc, text, inner, token.place, word, rest),
+        Kind::Sign(Sign::OpenBrace) => block(reader.at(rest), token.place),
+        Kind::Word(word) => worded(reader.at(rest), token.place, word),
         _ => Err(Failed::Syntax),
     }
 }
@@ -92,108 +78,81 @@ fn step<'t>(
 // What a name begins.
 #[cycle(statement)]
 #[tactic(auto, unfolding(crate::specs::ReadingStatements::named_stm_at, sz_parse_expr::specs::Reading::choose))]
-fn named<'t>(
-    alloc: Global,
-    text: &[u8],
-    inner: Depth,
-    name: Name,
-    tokens: &'t [Token],
-) -> Result<(Stmt, &'t [Token]), Failed>
-    ensures read { Gives (λ x. (stm_of x.0, x.1.now)) result (named_stm_at (utf8_in text.now) (readers_at (utf8_in text.now) inner.levels) inner.levels name tokens.now) }
+fn named(reader: Reader<'_>, name: Name) -> Result<(Stmt, &[Token]), Failed>
+    ensures read { Gives (λ x. (stm_of x.0, x.1.now)) result (named_stm_at (utf8_in reader.entry.text.now)
+        (readers_at (utf8_in reader.entry.text.now) reader.entry.depth.levels) reader.entry.depth.levels name
+        reader.entry.tokens.now) }
 {
-    if let Some(rest) = skip(Sign::Colon, tokens) {
-        return colon(alloc, text, inner, name, rest);
+    if let Some(rest) = skip(Sign::Colon, reader.tokens) {
+        return colon(reader.at(rest), name);
     }
-    match skip(Sign::Define, tokens) {
-        Some(rest) => define(alloc, text, inner, name, rest),
-        None => simple_statement(alloc, text, inner, name, tokens),
+    match skip(Sign::Define, reader.tokens) {
+        Some(rest) => define(reader.at(rest), name),
+        None => simple_statement(reader, name),
     }
 }
 
 // What a name and a colon begin.
 #[cycle(statement)]
 #[tactic(auto, unfolding(crate::specs::ReadingStatements::colon_at, sz_parse_expr::specs::Reading::choose))]
-fn colon<'t>(
-    alloc: Global,
-    text: &[u8],
-    inner: Depth,
-    name: Name,
-    tokens: &'t [Token],
-) -> Result<(Stmt, &'t [Token]), Failed>
-    ensures read { Gives (λ x. (stm_of x.0, x.1.now)) result (colon_at (utf8_in text.now) (readers_at (utf8_in text.now) inner.levels) name tokens.now) }
+fn colon(reader: Reader<'_>, name: Name) -> Result<(Stmt, &[Token]), Failed>
+    ensures read { Gives (λ x. (stm_of x.0, x.1.now)) result (colon_at (utf8_in reader.entry.text.now)
+        (readers_at (utf8_in reader.entry.text.now) reader.entry.depth.levels) name reader.entry.tokens.now) }
 {
-    if let Some(rest) = skip_word(Word::Table, tokens) {
-        return table_statement(alloc, text, inner, name, rest);
+    if let Some(rest) = skip_word(Word::Table, reader.tokens) {
+        return table_statement(reader.at(rest), name);
     }
-    match skip_word(Word::Function, tokens) {
-        Some(rest) => function(alloc, text, inner, name, rest),
-        None => declare(alloc, text, inner, name, tokens),
+    match skip_word(Word::Function, reader.tokens) {
+        Some(rest) => function(reader.at(rest), name),
+        None => declare(reader, name),
     }
 }
 
 // A function, after its first word.
 #[cycle(statement)]
 #[tactic(auto, unfolding(crate::specs::ReadingStatements::function_at, crate::specs::ReadingStatements::parameters_at, crate::specs::ReadingStatements::closed_by, sz_parse_expr::specs::Reading::bind))]
-fn function<'t>(
-    alloc: Global,
-    text: &[u8],
-    inner: Depth,
-    name: Name,
-    tokens: &'t [Token],
-) -> Result<(Stmt, &'t [Token]), Failed>
-    ensures read { Gives (λ x. (stm_of x.0, x.1.now)) result (function_at (utf8_in text.now) (readers_at (utf8_in text.now) inner.levels) name tokens.now) }
+fn function(reader: Reader<'_>, name: Name) -> Result<(Stmt, &[Token]), Failed>
+    ensures read { Gives (λ x. (stm_of x.0, x.1.now)) result (function_at (utf8_in reader.entry.text.now)
+        (readers_at (utf8_in reader.entry.text.now) reader.entry.depth.levels) name reader.entry.tokens.now) }
 {
-    let (params, rest) = parameters(alloc, text, inner, tokens)?;
-    let (of, rest) = returned(alloc, text, inner, rest)?;
-    let (statements, rest) = body(alloc, text, inner, rest)?;
+    let (params, rest) = parameters(reader)?;
+    let (of, rest) = returned(reader.at(rest))?;
+    let (statements, rest) = body(reader.at(rest))?;
     Ok((Stmt::function(name, params, of, statements), rest))
 }
 
 #[cycle(statement)]
 #[tactic(auto, unfolding(crate::specs::ReadingStatements::block_at, sz_parse_expr::specs::Reading::bind))]
-fn block<'t>(
-    alloc: Global,
-    text: &[u8],
-    inner: Depth,
-    place: Place,
-    tokens: &'t [Token],
-) -> Result<(Stmt, &'t [Token]), Failed>
-    ensures read { Gives (λ x. (stm_of x.0, x.1.now)) result (block_at (stm_at (utf8_in text.now) inner.levels) place tokens.now) }
+fn block(reader: Reader<'_>, place: Place) -> Result<(Stmt, &[Token]), Failed>
+    ensures read { Gives (λ x. (stm_of x.0, x.1.now)) result
+        (block_at (stm_at (utf8_in reader.entry.text.now) reader.entry.depth.levels) place reader.entry.tokens.now) }
 {
-    let (statements, rest) = body(alloc, text, inner, tokens)?;
+    let (statements, rest) = body(reader)?;
     Ok((Stmt::block(place, statements), rest))
 }
 
 // Statements, and the closing brace.
 #[cycle(statement)]
 #[tactic(auto, unfolding(crate::specs::ReadingStatements::body_at, sz_parse_expr::specs::Reading::bind))]
-fn body<'t>(
-    alloc: Global,
-    text: &[u8],
-    inner: Depth,
-    tokens: &'t [Token],
-) -> Result<(Vec<Stmt>, &'t [Token]), Failed>
-    ensures read { Gives (λ x. (each stm_of x.0.items, x.1.now)) result (body_at (stm_at (utf8_in text.now) inner.levels) tokens.now) }
+fn body(reader: Reader<'_>) -> Result<(Vec<Stmt>, &[Token]), Failed>
+    ensures read { Gives (λ x. (each stm_of x.0.items, x.1.now)) result
+        (body_at (stm_at (utf8_in reader.entry.text.now) reader.entry.depth.levels) reader.entry.tokens.now) }
 {
-    let (statements, rest) = statements(alloc, text, inner, tokens)?;
+    let (statements, rest) = statements(reader)?;
     let rest = expect(Sign::CloseBrace, rest)?;
     Ok((statements, rest))
 }
 
 // Statements, up to a closing brace or the end.
 #[cycle(statement)]
-fn statements<'t>(
-    alloc: Global,
-    text: &[u8],
-    inner: Depth,
-    tokens: &'t [Token],
-) -> Result<(Vec<Stmt>, &'t [Token]), Failed>
-    ensures read { Gives (λ x. (each stm_of x.0.items, x.1.now)) result (all_at (stm_step (stm_at (utf8_in text.now) inner.levels)) tokens.now) }
+fn statements(reader: Reader<'_>) -> Result<(Vec<Stmt>, &[Token]), Failed>
+    ensures read { Gives (λ x. (each stm_of x.0.items, x.1.now)) result (all_at
+        (stm_step (stm_at (utf8_in reader.entry.text.now) reader.entry.depth.levels)) reader.entry.tokens.now) }
 {
-    let mut items = Vec::new(alloc);
-    let mut rest = tokens;
+    let mut items = Vec::new(reader.alloc);
+    let mut rest = reader.tokens;
     while let Some(_) = begins_statement(rest) {
-        let (item, after) = statement(alloc, text, inner, rest)?;
+        let (item, after) = statement(reader.at(rest))?;
         items.push(item)?;
         rest = after;
     }
@@ -203,124 +162,93 @@ fn statements<'t>(
 // What a word begins.
 #[cycle(statement)]
 #[tactic(auto, unfolding(crate::specs::ReadingStatements::break_at, crate::specs::ReadingStatements::continue_at))]
-fn worded<'t>(
-    alloc: Global,
-    text: &[u8],
-    inner: Depth,
-    place: Place,
-    word: Word,
-    tokens: &'t [Token],
-) -> Result<(Stmt, &'t [Token]), Failed>
-    ensures read { Gives (λ x. (stm_of x.0, x.1.now)) result (stm_worded (utf8_in text.now) (readers_at (utf8_in text.now) inner.levels) place word tokens.now) }
+fn worded(reader: Reader<'_>, place: Place, word: Word) -> Result<(Stmt, &[Token]), Failed>
+    ensures read { Gives (λ x. (stm_of x.0, x.1.now)) result (stm_worded (utf8_in reader.entry.text.now)
+        (readers_at (utf8_in reader.entry.text.now) reader.entry.depth.levels) place word reader.entry.tokens.now) }
 {
     match word {
-        Word::Static => static_statement(alloc, text, inner, place, tokens),
-        Word::Type => type_statement(alloc, text, inner, place, tokens),
-        Word::If => choice(alloc, text, inner, place, tokens),
-        Word::While => repeat(alloc, text, inner, place, tokens),
-        Word::Do => repeat_until(alloc, text, inner, place, tokens),
-        Word::For => for_loop(alloc, text, inner, place, tokens),
-        Word::Break => ended(Stmt::Break(place), tokens),
-        Word::Continue => ended(Stmt::Continue(place), tokens),
-        Word::Return => return_statement(alloc, text, inner, place, tokens),
-        Word::Emit => emit(alloc, text, inner, place, tokens),
-        Word::When => when(alloc, text, inner, place, tokens),
+        Word::Static => static_statement(reader, place),
+        Word::Type => type_statement(reader, place),
+        Word::If => choice(reader, place),
+        Word::While => repeat(reader, place),
+        Word::Do => repeat_until(reader, place),
+        Word::For => for_loop(reader, place),
+        Word::Break => ended(Stmt::Break(place), reader.tokens),
+        Word::Continue => ended(Stmt::Continue(place), reader.tokens),
+        Word::Return => return_statement(reader, place),
+        Word::Emit => emit(reader, place),
+        Word::When => when(reader, place),
         _ => Err(Failed::Syntax),
     }
 }
 
 #[cycle(statement)]
 #[tactic(auto, unfolding(crate::specs::ReadingStatements::if_at, sz_parse_expr::specs::Reading::bind, sz_parse_expr::specs::Reading::choose))]
-fn choice<'t>(
-    alloc: Global,
-    text: &[u8],
-    inner: Depth,
-    place: Place,
-    tokens: &'t [Token],
-) -> Result<(Stmt, &'t [Token]), Failed>
-    ensures read { Gives (λ x. (stm_of x.0, x.1.now)) result (if_at (readers_at (utf8_in text.now) inner.levels) place tokens.now) }
+fn choice(reader: Reader<'_>, place: Place) -> Result<(Stmt, &[Token]), Failed>
+    ensures read { Gives (λ x. (stm_of x.0, x.1.now)) result
+        (if_at (readers_at (utf8_in reader.entry.text.now) reader.entry.depth.levels) place reader.entry.tokens.now) }
 {
-    let (test, _, rest) = condition(alloc, text, inner, tokens)?;
-    let (part, rest) = boxed(alloc, text, inner, rest)?;
+    let test = condition(reader)?;
+    let (part, rest) = boxed(reader.at(test.rest))?;
     match skip_word(Word::Else, rest) {
-        None => Ok((Stmt::If(place, test, part, None), rest)),
+        None => Ok((Stmt::If(place, test.tree, part, None), rest)),
         Some(rest) => {
-            let (other, rest) = boxed(alloc, text, inner, rest)?;
-            Ok((Stmt::If(place, test, part, Some(other)), rest))
+            let (other, rest) = boxed(reader.at(rest))?;
+            Ok((Stmt::If(place, test.tree, part, Some(other)), rest))
         }
     }
 }
 
 #[cycle(statement)]
 #[tactic(auto, unfolding(crate::specs::ReadingStatements::while_at, sz_parse_expr::specs::Reading::bind))]
-fn repeat<'t>(
-    alloc: Global,
-    text: &[u8],
-    inner: Depth,
-    place: Place,
-    tokens: &'t [Token],
-) -> Result<(Stmt, &'t [Token]), Failed>
-    ensures read { Gives (λ x. (stm_of x.0, x.1.now)) result (while_at (readers_at (utf8_in text.now) inner.levels) place tokens.now) }
+fn repeat(reader: Reader<'_>, place: Place) -> Result<(Stmt, &[Token]), Failed>
+    ensures read { Gives (λ x. (stm_of x.0, x.1.now)) result (while_at
+        (readers_at (utf8_in reader.entry.text.now) reader.entry.depth.levels) place reader.entry.tokens.now) }
 {
-    let (test, _, rest) = condition(alloc, text, inner, tokens)?;
-    let (part, rest) = boxed(alloc, text, inner, rest)?;
-    Ok((Stmt::While(place, test, part), rest))
+    let test = condition(reader)?;
+    let (part, rest) = boxed(reader.at(test.rest))?;
+    Ok((Stmt::While(place, test.tree, part), rest))
 }
 
 #[cycle(statement)]
 #[tactic(auto, unfolding(crate::specs::ReadingStatements::do_at, sz_parse_expr::specs::Reading::bind))]
-fn repeat_until<'t>(
-    alloc: Global,
-    text: &[u8],
-    inner: Depth,
-    place: Place,
-    tokens: &'t [Token],
-) -> Result<(Stmt, &'t [Token]), Failed>
-    ensures read { Gives (λ x. (stm_of x.0, x.1.now)) result (do_at (readers_at (utf8_in text.now) inner.levels) place tokens.now) }
+fn repeat_until(reader: Reader<'_>, place: Place) -> Result<(Stmt, &[Token]), Failed>
+    ensures read { Gives (λ x. (stm_of x.0, x.1.now)) result
+        (do_at (readers_at (utf8_in reader.entry.text.now) reader.entry.depth.levels) place reader.entry.tokens.now) }
 {
-    let (part, rest) = boxed(alloc, text, inner, tokens)?;
+    let (part, rest) = boxed(reader)?;
     let rest = expect_word(Word::While, rest)?;
-    let (test, _, rest) = condition(alloc, text, inner, rest)?;
-    ended(Stmt::DoWhile(place, part, test), rest)
+    let test = condition(reader.at(rest))?;
+    ended(Stmt::DoWhile(place, part, test.tree), test.rest)
 }
 
 #[cycle(statement)]
 #[tactic(auto, unfolding(crate::specs::ReadingStatements::for_at, crate::specs::ReadingStatements::closed_by, sz_parse_expr::specs::Reading::bind))]
-fn for_loop<'t>(
-    alloc: Global,
-    text: &[u8],
-    inner: Depth,
-    place: Place,
-    tokens: &'t [Token],
-) -> Result<(Stmt, &'t [Token]), Failed>
-    ensures read { Gives (λ x. (stm_of x.0, x.1.now)) result (for_at (readers_at (utf8_in text.now) inner.levels) place tokens.now) }
+fn for_loop(reader: Reader<'_>, place: Place) -> Result<(Stmt, &[Token]), Failed>
+    ensures read { Gives (λ x. (stm_of x.0, x.1.now)) result (for_at
+        (readers_at (utf8_in reader.entry.text.now) reader.entry.depth.levels) place reader.entry.tokens.now) }
 {
-    let rest = expect(Sign::OpenParen, tokens)?;
-    let (first, rest) = maybe_first(alloc, text, inner, rest)?;
-    let test = maybe_expr(alloc, text, inner, Sign::Semicolon, rest);
+    let rest = expect(Sign::OpenParen, reader.tokens)?;
+    let (first, rest) = maybe_first(reader.at(rest))?;
+    let test = maybe_expr(reader.at(rest), Sign::Semicolon);
     let (first, test, rest) = beside(first, test)?;
-    let next = maybe_simple(alloc, text, inner, rest);
+    let next = maybe_simple(reader.at(rest));
     let (head, next, rest) = beside((first, test), next)?;
-    let part = boxed(alloc, text, inner, rest);
+    let part = boxed(reader.at(rest));
     let (((first, test), next), part, rest) = beside((head, next), part)?;
     Ok((Stmt::For(place, first, test, next, part), rest))
 }
 
 #[cycle(statement)]
 #[tactic(auto, unfolding(crate::specs::ReadingStatements::when_at, sz_parse_expr::specs::Reading::bind))]
-fn when<'t>(
-    alloc: Global,
-    text: &[u8],
-    inner: Depth,
-    place: Place,
-    tokens: &'t [Token],
-) -> Result<(Stmt, &'t [Token]), Failed>
-    ensures read { Gives (λ x. (stm_of x.0, x.1.now)) result (when_at (utf8_in text.now) (readers_at (utf8_in text.now) inner.levels) place tokens.now) }
+fn when(reader: Reader<'_>, place: Place) -> Result<(Stmt, &[Token]), Failed>
+    ensures read { Gives (λ x. (stm_of x.0, x.1.now)) result (when_at (utf8_in reader.entry.text.now)
+        (readers_at (utf8_in reader.entry.text.now) reader.entry.depth.levels) place reader.entry.tokens.now) }
 {
-    let rest = expect(Sign::OpenParen, tokens)?;
-    let (quantifiers, rest) = quantifiers(alloc, text, inner, rest)?;
-    let (test, _, rest) = expr(alloc, text, inner, 5, rest)?;
-    let rest = expect(Sign::CloseParen, rest)?;
-    let (part, rest) = boxed(alloc, text, inner, rest)?;
-    Ok((Stmt::When(place, quantifiers, test, part), rest))
+    let rest = expect(Sign::OpenParen, reader.tokens)?;
+    let (quantifiers, rest) = quantifiers(reader.at(rest))?;
+    let test = expr(reader.at(rest), 5)?;
+    let rest = expect(Sign::CloseParen, test.rest)?;
+    let (part, rest) = boxed(reader.at(rest))?;
+    Ok((Stmt::When(place, quantifiers, test.tree, part), rest))
 }

@@ -7,10 +7,9 @@ ghost use Rattle.sz_parse_expr.specs.ReadingTypes.{type_at};
 ghost use Rattle.sz_parse.specs.ReadingTables.{argument_at, table_index_at, table_index_step, table_weight_at, table_parts_at, table_at, names_later, names_at, quantity_of, quantity_at, quantifier_at, begins_quantifier, quantifiers_after, quantifiers_at};
 ghost use Rattle.sz_parse_expr.specs.Outcome.{Gives, Sees};
 
-use std::alloc::Global;
 use sz_lex::{Kind, Sign, Token, Word};
 use sz_parse_expr::{
-    Depth, Failed, elem, expect, expect_word, name, number, skip, skip_word, type_tree,
+    Failed, Reader, elem, expect, expect_word, name, number, skip, skip_word, type_tree,
 };
 use sz_tree::{Elem, Name, Quantifier, Quantity, Table};
 
@@ -31,33 +30,25 @@ fn argument(tokens: &[Token]) -> Result<(Option<i64>, &[Token]), Failed>
 
 // An index of a table, after its opening bracket.
 #[tactic(auto, unfolding(crate::specs::ReadingTables::table_index_at, sz_parse_expr::specs::Reading::bind))]
-fn table_index<'t>(
-    alloc: Global,
-    text: &[u8],
-    inner: Depth,
-    tokens: &'t [Token],
-) -> Result<(Elem, &'t [Token]), Failed>
-    ensures read { Gives (λ x. (elem_of x.0, x.1.now)) result (table_index_at (utf8_in text.now) (type_at (utf8_in text.now) inner.levels) tokens.now) }
+fn table_index(reader: Reader<'_>) -> Result<(Elem, &[Token]), Failed>
+    ensures read { Gives (λ x. (elem_of x.0, x.1.now)) result (table_index_at (utf8_in reader.entry.text.now)
+        (type_at (utf8_in reader.entry.text.now) reader.entry.depth.levels) reader.entry.tokens.now) }
 {
-    let (item, rest) = elem(alloc, text, inner, tokens)?;
+    let (item, rest) = elem(reader)?;
     let rest = expect(Sign::CloseBracket, rest)?;
     Ok((item, rest))
 }
 
 // The indexes of a table.
-fn table_indexes<'t>(
-    alloc: Global,
-    text: &[u8],
-    inner: Depth,
-    tokens: &'t [Token],
-) -> Result<(Vec<Elem>, &'t [Token]), Failed>
+fn table_indexes(reader: Reader<'_>) -> Result<(Vec<Elem>, &[Token]), Failed>
     ensures read { Gives (λ x. (each elem_of x.0.items, x.1.now)) result
-        (all_at (table_index_step (utf8_in text.now) (type_at (utf8_in text.now) inner.levels)) tokens.now) }
+        (all_at (table_index_step (utf8_in reader.entry.text.now)
+        (type_at (utf8_in reader.entry.text.now) reader.entry.depth.levels)) reader.entry.tokens.now) }
 {
-    let mut items = Vec::new(alloc);
-    let mut rest = tokens;
+    let mut items = Vec::new(reader.alloc);
+    let mut rest = reader.tokens;
     while let Some(after) = skip(Sign::OpenBracket, rest) {
-        let (item, after) = table_index(alloc, text, inner, after)?;
+        let (item, after) = table_index(reader.at(after))?;
         items.push(item)?;
         rest = after;
     }
@@ -66,18 +57,15 @@ fn table_indexes<'t>(
 
 // What `weight` begins, if it stands there.
 #[tactic(auto, unfolding(crate::specs::ReadingTables::table_weight_at, sz_parse_expr::specs::Reading::bind, sz_parse_expr::specs::Reading::choose))]
-fn table_weight<'t>(
-    alloc: Global,
-    text: &[u8],
-    inner: Depth,
-    tokens: &'t [Token],
-) -> Result<(Option<Elem>, &'t [Token]), Failed>
-    ensures read { Gives (λ x. (option_map elem_of x.0, x.1.now)) result (table_weight_at (utf8_in text.now) (type_at (utf8_in text.now) inner.levels) tokens.now) }
+fn table_weight(reader: Reader<'_>) -> Result<(Option<Elem>, &[Token]), Failed>
+    ensures read { Gives
+        (λ x. (option_map elem_of x.0, x.1.now)) result (table_weight_at (utf8_in reader.entry.text.now)
+        (type_at (utf8_in reader.entry.text.now) reader.entry.depth.levels) reader.entry.tokens.now) }
 {
-    match skip_word(Word::Weight, tokens) {
-        None => Ok((None, tokens)),
+    match skip_word(Word::Weight, reader.tokens) {
+        None => Ok((None, reader.tokens)),
         Some(rest) => {
-            let (item, rest) = elem(alloc, text, inner, rest)?;
+            let (item, rest) = elem(reader.at(rest))?;
             Ok((Some(item), rest))
         }
     }
@@ -85,35 +73,26 @@ fn table_weight<'t>(
 
 // What a table keeps, and its weight if it has one.
 #[tactic(auto, unfolding(crate::specs::ReadingTables::table_parts_at, sz_parse_expr::specs::Reading::bind))]
-fn table_parts<'t>(
-    alloc: Global,
-    text: &[u8],
-    inner: Depth,
-    tokens: &'t [Token],
-) -> Result<(Elem, Option<Elem>, &'t [Token]), Failed>
+fn table_parts(reader: Reader<'_>) -> Result<(Elem, Option<Elem>, &[Token]), Failed>
     ensures read { Gives (λ x. ((elem_of x.0, option_map elem_of x.1), x.2.now)) result
-        (table_parts_at (utf8_in text.now) (type_at (utf8_in text.now) inner.levels) tokens.now) }
+        (table_parts_at (utf8_in reader.entry.text.now) (type_at (utf8_in reader.entry.text.now) reader.entry.depth.levels) reader.entry.tokens.now) }
 {
-    let rest = expect_word(Word::Of, tokens)?;
-    let (of, rest) = elem(alloc, text, inner, rest)?;
-    let (weight, rest) = table_weight(alloc, text, inner, rest)?;
+    let rest = expect_word(Word::Of, reader.tokens)?;
+    let (of, rest) = elem(reader.at(rest))?;
+    let (weight, rest) = table_weight(reader.at(rest))?;
     Ok((of, weight, rest))
 }
 
 // What stands after `table`, up to the semicolon.
 #[tactic(auto, unfolding(crate::specs::ReadingTables::table_at, crate::specs::ReadingTables::table_parts_at, sz_parse_expr::specs::Reading::bind))]
-pub fn table<'t>(
-    alloc: Global,
-    text: &[u8],
-    inner: Depth,
-    tokens: &'t [Token],
-) -> Result<(Table, &'t [Token]), Failed>
-    ensures read { Gives (λ x. (table_of x.0, x.1.now)) result (table_at (utf8_in text.now) (type_at (utf8_in text.now) inner.levels) tokens.now) }
+pub fn table(reader: Reader<'_>) -> Result<(Table, &[Token]), Failed>
+    ensures read { Gives (λ x. (table_of x.0, x.1.now)) result (table_at (utf8_in reader.entry.text.now)
+        (type_at (utf8_in reader.entry.text.now) reader.entry.depth.levels) reader.entry.tokens.now) }
 {
-    let (kind, rest) = name(alloc, text, tokens)?;
+    let (kind, rest) = name(reader)?;
     let (argument, rest) = argument(rest)?;
-    let (indexes, rest) = table_indexes(alloc, text, inner, rest)?;
-    let (of, weight, rest) = table_parts(alloc, text, inner, rest)?;
+    let (indexes, rest) = table_indexes(reader.at(rest))?;
+    let (of, weight, rest) = table_parts(reader.at(rest))?;
     let table = Table {
         kind,
         argument,
@@ -127,30 +106,21 @@ pub fn table<'t>(
 
 // A name, and those that follow it with a comma before each.
 #[tactic(auto, unfolding(crate::specs::ReadingTables::names_at, sz_parse_expr::specs::Reading::bind))]
-fn names<'t>(
-    alloc: Global,
-    text: &[u8],
-    tokens: &'t [Token],
-) -> Result<(Vec<Name>, &'t [Token]), Failed>
-    ensures read { Gives (λ x. (x.0.items, x.1.now)) result (names_at (utf8_in text.now) tokens.now) }
+fn names(reader: Reader<'_>) -> Result<(Vec<Name>, &[Token]), Failed>
+    ensures read { Gives (λ x. (x.0.items, x.1.now)) result (names_at (utf8_in reader.entry.text.now) reader.entry.tokens.now) }
 {
-    let (first, rest) = name(alloc, text, tokens)?;
-    names_later(alloc, text, first, rest)
+    let (first, rest) = name(reader)?;
+    names_later(reader.at(rest), first)
 }
 
-fn names_later<'t>(
-    alloc: Global,
-    text: &[u8],
-    first: Name,
-    tokens: &'t [Token],
-) -> Result<(Vec<Name>, &'t [Token]), Failed>
-    ensures read { Gives (λ x. (x.0.items, x.1.now)) result (names_later (utf8_in text.now) first tokens.now) }
+fn names_later(reader: Reader<'_>, first: Name) -> Result<(Vec<Name>, &[Token]), Failed>
+    ensures read { Gives (λ x. (x.0.items, x.1.now)) result (names_later (utf8_in reader.entry.text.now) first reader.entry.tokens.now) }
 {
-    let mut items = Vec::new(alloc);
+    let mut items = Vec::new(reader.alloc);
     items.push(first)?;
-    let mut rest = tokens;
+    let mut rest = reader.tokens;
     while let Some(after) = skip(Sign::Comma, rest) {
-        let (item, after) = name(alloc, text, after)?;
+        let (item, after) = name(reader.at(after))?;
         items.push(item)?;
         rest = after;
     }
@@ -214,18 +184,14 @@ fn begins_quantifier<'t>(text: &[u8], tokens: &'t [Token]) -> Option<&'t [Token]
 
 // A quantifier with its semicolon.
 #[tactic(auto, unfolding(crate::specs::ReadingTables::quantifier_at, sz_parse_expr::specs::Reading::bind))]
-fn quantifier<'t>(
-    alloc: Global,
-    text: &[u8],
-    inner: Depth,
-    tokens: &'t [Token],
-) -> Result<(Quantifier, &'t [Token]), Failed>
-    ensures read { Gives (λ x. (quantifier_of x.0, x.1.now)) result (quantifier_at (utf8_in text.now) (type_at (utf8_in text.now) inner.levels) tokens.now) }
+fn quantifier(reader: Reader<'_>) -> Result<(Quantifier, &[Token]), Failed>
+    ensures read { Gives (λ x. (quantifier_of x.0, x.1.now)) result (quantifier_at (utf8_in reader.entry.text.now)
+        (type_at (utf8_in reader.entry.text.now) reader.entry.depth.levels) reader.entry.tokens.now) }
 {
-    let (names, rest) = names(alloc, text, tokens)?;
+    let (names, rest) = names(reader)?;
     let rest = expect(Sign::Colon, rest)?;
     let (quantity, rest) = quantity(rest)?;
-    let (of, rest) = type_tree(alloc, text, inner, rest)?;
+    let (of, rest) = type_tree(reader.at(rest))?;
     let quantifier = Quantifier {
         names,
         quantity,
@@ -237,34 +203,27 @@ fn quantifier<'t>(
 
 // One or more quantifiers.
 #[tactic(auto, unfolding(crate::specs::ReadingTables::quantifiers_at, sz_parse_expr::specs::Reading::bind))]
-pub fn quantifiers<'t>(
-    alloc: Global,
-    text: &[u8],
-    inner: Depth,
-    tokens: &'t [Token],
-) -> Result<(Vec<Quantifier>, &'t [Token]), Failed>
+pub fn quantifiers(reader: Reader<'_>) -> Result<(Vec<Quantifier>, &[Token]), Failed>
     ensures read { Gives (λ x. (each quantifier_of x.0.items, x.1.now)) result
-        (quantifiers_at (utf8_in text.now) (type_at (utf8_in text.now) inner.levels) tokens.now) }
+        (quantifiers_at (utf8_in reader.entry.text.now) (type_at (utf8_in reader.entry.text.now) reader.entry.depth.levels) reader.entry.tokens.now) }
 {
-    let (first, rest) = quantifier(alloc, text, inner, tokens)?;
-    quantifiers_after(alloc, text, inner, first, rest)
+    let (first, rest) = quantifier(reader)?;
+    quantifiers_after(reader.at(rest), first)
 }
 
-fn quantifiers_after<'t>(
-    alloc: Global,
-    text: &[u8],
-    inner: Depth,
+fn quantifiers_after(
+    reader: Reader<'_>,
     first: Quantifier,
-    tokens: &'t [Token],
-) -> Result<(Vec<Quantifier>, &'t [Token]), Failed>
+) -> Result<(Vec<Quantifier>, &[Token]), Failed>
     ensures read { Gives (λ x. (each quantifier_of x.0.items, x.1.now)) result
-        (quantifiers_after (utf8_in text.now) (type_at (utf8_in text.now) inner.levels) (quantifier_of first) tokens.now) }
+        (quantifiers_after (utf8_in reader.entry.text.now) (type_at (utf8_in reader.entry.text.now)
+        reader.entry.depth.levels) (quantifier_of first) reader.entry.tokens.now) }
 {
-    let mut items = Vec::new(alloc);
+    let mut items = Vec::new(reader.alloc);
     items.push(first)?;
-    let mut rest = tokens;
-    while let Some(_) = begins_quantifier(text, rest) {
-        let (item, after) = quantifier(alloc, text, inner, rest)?;
+    let mut rest = reader.tokens;
+    while let Some(_) = begins_quantifier(reader.text, rest) {
+        let (item, after) = quantifier(reader.at(rest))?;
         items.push(item)?;
         rest = after;
     }

@@ -49,7 +49,8 @@ module _ (f g : Spelling) where
   literal_alike (boolean true) t e h = h
   literal_alike (boolean false) t e h = h
 
-  on_literal : {p : Place} (l : Lit) {ts rest : List Token} → AtLiteral f p l ts rest → Agree ts → AtLiteral g p l ts rest × Agree rest
+  on_literal : {p : Place} (l : Lit) {ts rest : List Token} → AtLiteral f p l ts rest → Agree ts
+      → AtLiteral g p l ts rest × Agree rest
   on_literal l h a =
       let b = later _ _ _ h.is a in
       (record { here = h.here; place = h.place; means = literal_alike l h.here b.0 h.means; is = h.is }, b.1)
@@ -102,21 +103,24 @@ module _ (f g : Spelling) where
         let y = exp_alike r _ _ h.7 (on_is h.5 x.1) in
         ((h.0, h.1, h.2, h.3, x.0, h.5, h.6, y.0), y.1)
 
-    pub args_alike : (es : Exps) (ts rest : List Token) → ReadsArgs f es ts rest → Agree ts → ReadsArgs g es ts rest × Agree rest
+    pub args_alike : (es : Exps) (ts rest : List Token) → ReadsArgs f es ts rest → Agree ts
+        → ReadsArgs g es ts rest × Agree rest
     args_alike end ts rest h a = (h, on_end ts rest h a)
     args_alike (more e es) ts rest h a =
         let x = exp_alike e _ _ h.1 a in
         let y = more_alike es _ _ h.2 x.1 in
         ((h.0, x.0, y.0), y.1)
 
-    more_alike : (es : Exps) (ts rest : List Token) → ReadsMore f es ts rest → Agree ts → ReadsMore g es ts rest × Agree rest
+    more_alike : (es : Exps) (ts rest : List Token) → ReadsMore f es ts rest → Agree ts
+        → ReadsMore g es ts rest × Agree rest
     more_alike end ts rest h a = (h, on_end ts rest h a)
     more_alike (more e es) ts rest h a =
         let x = exp_alike e _ _ h.3 (on_is h.2 a) in
         let y = more_alike es _ _ h.4 x.1 in
         ((h.0, h.1, h.2, x.0, y.0), y.1)
 
-    entries_alike : (ps : Pairs) (ts rest : List Token) → ReadsEntries f ps ts rest → Agree ts → ReadsEntries g ps ts rest × Agree rest
+    entries_alike : (ps : Pairs) (ts rest : List Token) → ReadsEntries f ps ts rest → Agree ts
+        → ReadsEntries g ps ts rest × Agree rest
     entries_alike no_pairs ts rest h a = (h, on_is h a)
     entries_alike (pair k v ps) ts rest h a =
         let x = exp_alike k _ _ h.3 a in
@@ -124,7 +128,8 @@ module _ (f g : Spelling) where
         let z = pairs_alike ps _ _ h.6 y.1 in
         ((h.0, h.1, h.2, x.0, h.4, y.0, z.0), z.1)
 
-    pairs_alike : (ps : Pairs) (ts rest : List Token) → ReadsPairs f ps ts rest → Agree ts → ReadsPairs g ps ts rest × Agree rest
+    pairs_alike : (ps : Pairs) (ts rest : List Token) → ReadsPairs f ps ts rest → Agree ts
+        → ReadsPairs g ps ts rest × Agree rest
     pairs_alike no_pairs ts rest h a = (h, on_end ts rest h a)
     pairs_alike (pair k v ps) ts rest h a =
         let x = exp_alike k _ _ h.5 (on_is h.4 a) in

@@ -31,8 +31,8 @@ literal_first text (character c) t h = rw h refl
 literal_first text (boolean true) t h = rw h refl
 literal_first text (boolean false) t h = rw h refl
 
-postfix_first : (text : Spelling) (e : Exp) (ts rest : List Token) → IsPostfix e → Reads text e ts rest → (t : Token) × (more : List Token)
-    × (ts ≡ t ∷ more) × (unary_of t.kind ≡ None)
+postfix_first : (text : Spelling) (e : Exp) (ts rest : List Token) → IsPostfix e → Reads text e ts rest
+    → (t : Token) × (more : List Token) × (ts ≡ t ∷ more) × (unary_of t.kind ≡ None)
 unfolding Reads
 postfix_first text (literal p l) ts rest post h = (h.here, _, h.is, literal_first text l h.here h.means)
 postfix_first text (named n) ts rest post h = (_, _, h.is, refl)
@@ -50,7 +50,8 @@ postfix_first text (field p e n) ts rest post h = postfix_first text e ts _ h.3 
 
 no_part : (text : Spelling) (sub : Sub) (e : Exp) (ts : List Token) → 0 < grip ts → part_step text sub e ts ≡ None
 unfolding part_step
-no_part text sub e ts g = choose_none _ _ _ _ (no_grip signs.OpenBracket ts refl g) (choose_none _ _ _ _ (no_grip signs.Dot ts refl g) refl)
+no_part text sub e ts g =
+    choose_none _ _ _ _ (no_grip signs.OpenBracket ts refl g) (choose_none _ _ _ _ (no_grip signs.Dot ts refl g) refl)
 
 -- the left operand and what follows it
 pub record Chained (text : Spelling) (sub : Sub) (d l : ℕ) (ts rest : List Token) (e : Exp) : Type 0 where
@@ -61,11 +62,12 @@ pub record Chained (text : Spelling) (sub : Sub) (d l : ℕ) (ts rest : List Tok
 -- what a level reads completely
 abbrev IsLevel : Spelling → Sub → ℕ → ℕ → Type 0
 IsLevel text sub d l =
-    (e : Exp) (ts rest : List Token) → Reads text e ts rest → height e ≤ suc d → loose e ≤ l → l < grip rest → level_at text sub d l ts ≡ Some (e, rest)
+    (e : Exp) (ts rest : List Token) → Reads text e ts rest → height e ≤ suc d → loose e ≤ l → l < grip rest
+    → level_at text sub d l ts ≡ Some (e, rest)
 
 module _ (text : Spelling) (sub : Sub) (d : ℕ) (s : IsSound text sub d) (h : IsComplete text sub d) where
-  prefix_postfix : (e : Exp) (ts rest : List Token) → IsPostfix e → Reads text e ts rest → height e ≤ suc d → 0 < grip rest
-      → prefix_at text sub d ts ≡ Some (e, rest)
+  prefix_postfix : (e : Exp) (ts rest : List Token) → IsPostfix e → Reads text e ts rest
+      → height e ≤ suc d → 0 < grip rest → prefix_at text sub d ts ≡ Some (e, rest)
   unfolding prefix_at tail_at
   prefix_postfix e ts rest post re low g =
       let first = postfix_first text e ts rest post re in
@@ -77,11 +79,12 @@ module _ (text : Spelling) (sub : Sub) (d : ℕ) (s : IsSound text sub d) (h : I
       stops zero = refl
       stops (suc k) = choose_none _ _ _ _ (no_part text sub e rest g) refl
 
-  prefix_complete : (e : Exp) (ts rest : List Token) → Reads text e ts rest → height e ≤ suc d → loose e ≤ 0 → 0 < grip rest
-      → prefix_at text sub d ts ≡ Some (e, rest)
+  prefix_complete : (e : Exp) (ts rest : List Token) → Reads text e ts rest → height e ≤ suc d
+      → loose e ≤ 0 → 0 < grip rest → prefix_at text sub d ts ≡ Some (e, rest)
   unfolding Reads height prefix_at unary_at
   prefix_complete (unary p o e) ts rest re low tight g =
-      rw re.1.is (choose_some _ _ _ _ _ (unary_of_sign o) (bind_step _ _ _ _ (h 0 e re.0 rest re.3 (omega arith) re.2 g) refl))
+      rw re.1.is
+      (choose_some _ _ _ _ _ (unary_of_sign o) (bind_step _ _ _ _ (h 0 e re.0 rest re.3 (omega arith) re.2 g) refl))
   prefix_complete (binary p o l r) ts rest re low tight g = absurd (omega (arith, (looseness o).least, tight))
   prefix_complete (literal p l) ts rest re low tight g = prefix_postfix (literal p l) ts rest tt re low g
   prefix_complete (named n) ts rest re low tight g = prefix_postfix (named n) ts rest tt re low g
@@ -95,23 +98,27 @@ module _ (text : Spelling) (sub : Sub) (d : ℕ) (s : IsSound text sub d) (h : I
   prefix_complete (slice p e i j) ts rest re low tight g = prefix_postfix (slice p e i j) ts rest tt re low g
   prefix_complete (field p e n) ts rest re low tight g = prefix_postfix (field p e n) ts rest tt re low g
 
-  one_operator : (l : ℕ) (p : Place) (o : BinaryOp) (e r : Exp) (ts a b rest : List Token) → Chained text sub d l ts a e → loose_of o ≡ suc l
-      → p ≡ place_of e → loose e ≤ left_loose o → height e ≤ d → IsSign (sign_of o) a b → loose r < loose_of o → height r ≤ d → Reads text r b rest
+  one_operator : (l : ℕ) (p : Place) (o : BinaryOp) (e r : Exp) (ts a b rest : List Token)
+      → Chained text sub d l ts a e → loose_of o ≡ suc l → p ≡ place_of e → loose e ≤ left_loose o → height e ≤ d
+      → IsSign (sign_of o) a b → loose r < loose_of o → height r ≤ d → Reads text r b rest
       → l < grip rest → Chained text sub d l ts rest (binary p o e r)
   unfolding chain_at height
   one_operator l p o e r ts a b rest c level place left low sign right lowr re g = go c.turns c.enough c.reached
     where
-      go : (k : ℕ) → suc d ≤ k + height e → level_at text sub d (suc l) ts ≡ chain_at sub d l k e a → Chained text sub d l ts rest (binary p o e r)
+      go : (k : ℕ) → suc d ≤ k + height e → level_at text sub d (suc l) ts ≡ chain_at sub d l k e a
+          → Chained text sub d l ts rest (binary p o e r)
       go zero enough reached = absurd (omega arith)
       go (suc k) enough reached = record {
         turns = k;
         enough = omega arith;
         reached = rw place (reached
             ∙ choose_some _ _ _ _ _ (operator_is o (suc l) a b sign level)
-            (guard_step _ _ _ (le-leb _ _ left) (guard_step _ _ _ (le-leb _ _ low) (bind_step _ _ _ _ (h l r b rest re lowr (omega arith) g) refl))));
+            (guard_step _ _ _ (le-leb _ _ left)
+            (guard_step _ _ _ (le-leb _ _ low) (bind_step _ _ _ _ (h l r b rest re lowr (omega arith) g) refl))));
       }
 
-  level_step : (l : ℕ) (e : Exp) (ts rest : List Token) → level_at text sub d l ts ≡ Some (e, rest) → Chained text sub d l ts rest e
+  level_step : (l : ℕ) (e : Exp) (ts rest : List Token) → level_at text sub d l ts ≡ Some (e, rest)
+      → Chained text sub d l ts rest e
   unfolding level_at
   level_step l e ts rest h = record { turns = suc d; enough = omega arith; reached = bind_step _ _ _ _ h refl }
 
@@ -121,35 +128,49 @@ module _ (text : Spelling) (sub : Sub) (d : ℕ) (s : IsSound text sub d) (h : I
   chain_stops l (suc k) e rest g = choose_none _ _ _ _ (operator_none (suc l) rest g) refl
 
   chosen_level : (l : ℕ) → IsLevel text sub d l
-      → (p : Place) (o : BinaryOp) (e r : Exp) (ts rest : List Token) (re : Reads text (binary p o e r) ts rest) → height (binary p o e r) ≤ suc d
-      → loose_of o ≤ suc l → l < grip rest
+      → (p : Place) (o : BinaryOp) (e r : Exp) (ts rest : List Token) (re : Reads text (binary p o e r) ts rest)
+      → height (binary p o e r) ≤ suc d → loose_of o ≤ suc l → l < grip rest
       → (l < loose_of o → Chained text sub d l ts (unfold Reads in re.0) e) → (l < loose_of o) ⊎ (loose_of o ≤ l)
       → Chained text sub d l ts rest (binary p o e r)
   unfolding Reads height
-  chosen_level l below p o e r ts rest re low tight g c (inr le) = level_step l _ ts rest (below (binary p o e r) ts rest re low le g)
+  chosen_level l below p o e r ts rest re low tight g c (inr le) =
+      level_step l _ ts rest (below (binary p o e r) ts rest re low le g)
   chosen_level l below p o e r ts rest re low tight g c (inl lt) =
-      one_operator l p o e r ts re.0 re.1 rest (c lt) (omega arith) re.2 re.3 (omega arith) re.5 re.6 (omega arith) re.7 g
+      one_operator l p o e r ts re.0 re.1 rest (c lt)
+      (omega arith) re.2 re.3 (omega arith) re.5 re.6 (omega arith) re.7 g
 
-  chain_complete : (l : ℕ) → IsLevel text sub d l → (e : Exp) (ts rest : List Token) → Reads text e ts rest → height e ≤ suc d → loose e ≤ suc l
-      → l < grip rest → Chained text sub d l ts rest e
+  chain_complete : (l : ℕ) → IsLevel text sub d l → (e : Exp) (ts rest : List Token) → Reads text e ts rest
+      → height e ≤ suc d → loose e ≤ suc l → l < grip rest → Chained text sub d l ts rest e
   unfolding Reads height
   chain_complete l below (binary p o e r) ts rest re low tight g =
       chosen_level l below p o e r ts rest re low tight g
       (λ lt. chain_complete l below e ts re.0 re.4 (omega arith) (omega (arith, re.3, (looseness o).left))
       (omega (arith, grip_is (sign_of o) re.0 re.1 re.5, (looseness o).grips)))
       (cases_lt l (loose_of o))
-  chain_complete l below (literal p m) ts rest re low tight g = level_step l _ ts rest (below (literal p m) ts rest re low (omega arith) g)
-  chain_complete l below (named n) ts rest re low tight g = level_step l _ ts rest (below (named n) ts rest re low (omega arith) g)
-  chain_complete l below (call n es) ts rest re low tight g = level_step l _ ts rest (below (call n es) ts rest re low (omega arith) g)
-  chain_complete l below (def p e) ts rest re low tight g = level_step l _ ts rest (below (def p e) ts rest re low (omega arith) g)
-  chain_complete l below (paren p e) ts rest re low tight g = level_step l _ ts rest (below (paren p e) ts rest re low (omega arith) g)
-  chain_complete l below (convert p t e) ts rest re low tight g = level_step l _ ts rest (below (convert p t e) ts rest re low (omega arith) g)
-  chain_complete l below (list p es) ts rest re low tight g = level_step l _ ts rest (below (list p es) ts rest re low (omega arith) g)
-  chain_complete l below (mapping p ps) ts rest re low tight g = level_step l _ ts rest (below (mapping p ps) ts rest re low (omega arith) g)
-  chain_complete l below (unary p o e) ts rest re low tight g = level_step l _ ts rest (below (unary p o e) ts rest re low (omega arith) g)
-  chain_complete l below (index p e i) ts rest re low tight g = level_step l _ ts rest (below (index p e i) ts rest re low (omega arith) g)
-  chain_complete l below (slice p e i j) ts rest re low tight g = level_step l _ ts rest (below (slice p e i j) ts rest re low (omega arith) g)
-  chain_complete l below (field p e n) ts rest re low tight g = level_step l _ ts rest (below (field p e n) ts rest re low (omega arith) g)
+  chain_complete l below (literal p m) ts rest re low tight g =
+      level_step l _ ts rest (below (literal p m) ts rest re low (omega arith) g)
+  chain_complete l below (named n) ts rest re low tight g =
+      level_step l _ ts rest (below (named n) ts rest re low (omega arith) g)
+  chain_complete l below (call n es) ts rest re low tight g =
+      level_step l _ ts rest (below (call n es) ts rest re low (omega arith) g)
+  chain_complete l below (def p e) ts rest re low tight g =
+      level_step l _ ts rest (below (def p e) ts rest re low (omega arith) g)
+  chain_complete l below (paren p e) ts rest re low tight g =
+      level_step l _ ts rest (below (paren p e) ts rest re low (omega arith) g)
+  chain_complete l below (convert p t e) ts rest re low tight g =
+      level_step l _ ts rest (below (convert p t e) ts rest re low (omega arith) g)
+  chain_complete l below (list p es) ts rest re low tight g =
+      level_step l _ ts rest (below (list p es) ts rest re low (omega arith) g)
+  chain_complete l below (mapping p ps) ts rest re low tight g =
+      level_step l _ ts rest (below (mapping p ps) ts rest re low (omega arith) g)
+  chain_complete l below (unary p o e) ts rest re low tight g =
+      level_step l _ ts rest (below (unary p o e) ts rest re low (omega arith) g)
+  chain_complete l below (index p e i) ts rest re low tight g =
+      level_step l _ ts rest (below (index p e i) ts rest re low (omega arith) g)
+  chain_complete l below (slice p e i j) ts rest re low tight g =
+      level_step l _ ts rest (below (slice p e i j) ts rest re low (omega arith) g)
+  chain_complete l below (field p e n) ts rest re low tight g =
+      level_step l _ ts rest (below (field p e n) ts rest re low (omega arith) g)
 
   level_complete : (l : ℕ) → IsLevel text sub d l
   unfolding level_at

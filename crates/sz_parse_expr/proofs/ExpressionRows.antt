@@ -33,10 +33,12 @@ unfolding height
 pair_heights_push [] x = omega arith
 pair_heights_push (y ∷ xs) x = omega (arith, pair_heights_push xs x)
 
-pub items_start : (sub : Sub) (e : Exp) (ts : List Token) → with_items (e ∷ []) (all_at (comma_step sub) ts) ≡ items_after sub e ts
+pub items_start : (sub : Sub) (e : Exp) (ts : List Token)
+    → with_items (e ∷ []) (all_at (comma_step sub) ts) ≡ items_after sub e ts
 unfolding with_items items_after
 items_start sub e ts = refl
 
-pub pairs_start : (sub : Sub) (p : Exp × Exp) (ts : List Token) → with_items (p ∷ []) (all_at (pair_step sub) ts) ≡ pairs_after sub p ts
+pub pairs_start : (sub : Sub) (p : Exp × Exp) (ts : List Token)
+    → with_items (p ∷ []) (all_at (pair_step sub) ts) ≡ pairs_after sub p ts
 unfolding with_items pairs_after
 pairs_start sub p ts = refl

@@ -63,10 +63,15 @@ pub record ParsedOperator (l : ℕ) (ts : List Token) (o : BinaryOp × List Toke
   pub sign : IsSign (sign_of o.0) ts o.1
   pub level : loose_of o.0 ≡ l
 
-operator_here_sound : (l : ℕ) (m : Option BinaryOp) (t : Token) (ts : List Token) → Holds m (λ o. t.kind ≡ kinds.Sign (sign_of o))
-    → Holds (operator_here l m ts) (ParsedOperator l (t ∷ ts))
+operator_here_sound : (l : ℕ) (m : Option BinaryOp) (t : Token) (ts : List Token)
+    → Holds m (λ o. t.kind ≡ kinds.Sign (sign_of o)) → Holds (operator_here l m ts) (ParsedOperator l (t ∷ ts))
 operator_here_sound l (Some o) t ts h = if_holds _ _ _ (λ q. record {
-  sign = record { place = t.place; start = t.start; len = t.len; is = ap (λ (k : Kind). token k t.place t.start t.len ∷ ts) (h.holds o refl) };
+  sign = record {
+    place = t.place;
+    start = t.start;
+    len = t.len;
+    is = ap (λ (k : Kind). token k t.place t.start t.len ∷ ts) (h.holds o refl);
+  };
   level = eqb-true _ _ q;
 })
 operator_here_sound l None t ts h = none_holds _
@@ -76,7 +81,8 @@ unfolding operator_at
 operator_sound l [] = none_holds _
 operator_sound l (t ∷ ts) = operator_here_sound l (binary_of t.kind) t ts (binary_of_sound t.kind)
 
-parsed_of : (text : Spelling) (d : ℕ) (ts : List Token) (x : Exp × List Token) → ParsedTight text d ts x → Parsed text d 0 ts x
+parsed_of : (text : Spelling) (d : ℕ) (ts : List Token) (x : Exp × List Token) → ParsedTight text d ts x
+    → Parsed text d 0 ts x
 parsed_of text d ts x g = record { reads = g.reads; low = g.low; tight = tight_of x.0 g.postfix }
 
 module _ (text : Spelling) (sub : Sub) (d : ℕ) (h : IsSound text sub d) where
@@ -84,15 +90,18 @@ module _ (text : Spelling) (sub : Sub) (d : ℕ) (h : IsSound text sub d) where
       → Holds (unary_at sub p o ts) (Parsed text (suc d) 0 ts0)
   unfolding unary_at Reads height
   unary_sound ts0 p o ts at =
-      bind_holds (h 0 ts) (λ x g. some_holds _ _ (record { reads = (ts, at, g.tight, g.reads); low = omega (arith, g.low); tight = omega arith }))
+      bind_holds (h 0 ts) (λ x g.
+      some_holds _ _ (record { reads = (ts, at, g.tight, g.reads); low = omega (arith, g.low); tight = omega arith }))
 
   prefix_sound : (ts : List Token) → Holds (prefix_at text sub d ts) (Parsed text (suc d) 0 ts)
   unfolding prefix_at postfix_at
   prefix_sound [] = none_holds _
   prefix_sound (t ∷ ts) =
       choose_holds (unary_of_sound t.kind)
-      (bind_holds (primary_sound text sub d h t ts) (λ x g. weaker (tail_sound text sub d h (suc d) x.0 (t ∷ ts) x.1 g) (parsed_of text (suc d) (t ∷ ts))))
-      (λ o e. unary_sound (t ∷ ts) t.place o ts (record { start = t.start; len = t.len; is = ap (λ (k : Kind). token k t.place t.start t.len ∷ ts) e }))
+      (bind_holds (primary_sound text sub d h t ts)
+      (λ x g. weaker (tail_sound text sub d h (suc d) x.0 (t ∷ ts) x.1 g) (parsed_of text (suc d) (t ∷ ts))))
+      (λ o e. unary_sound (t ∷ ts) t.place o ts
+      (record { start = t.start; len = t.len; is = ap (λ (k : Kind). token k t.place t.start t.len ∷ ts) e }))
 
   chain_sound : (l k : ℕ) (e : Exp) (ts0 ts : List Token) → Parsed text (suc d) (suc l) ts0 (e, ts)
       → Holds (chain_at sub d l k e ts) (Parsed text (suc d) (suc l) ts0)
@@ -105,13 +114,18 @@ module _ (text : Spelling) (sub : Sub) (d : ℕ) (h : IsSound text sub d) where
       let low : height e ≤ d = leb-true _ _ u in
       let right : loose x.0 < loose_of o.0 = omega (arith, gx.tight, go.level) in
       chain_sound l k (binary (place_of e) o.0 e x.0) ts0 x.1
-      (record { reads = (ts, o.1, refl, left, g.reads, go.sign, right, gx.reads); low = omega (arith, gx.low); tight = omega (arith, go.level) })))))
+      (record {
+        reads = (ts, o.1, refl, left, g.reads, go.sign, right, gx.reads);
+        low = omega (arith, gx.low);
+        tight = omega (arith, go.level);
+      })))))
 
   level_sound : (l : ℕ) (ts : List Token) → Holds (level_at text sub d l ts) (Parsed text (suc d) l ts)
   unfolding level_at
   level_sound zero ts = prefix_sound ts
   level_sound (suc l) ts =
-      bind_holds (level_sound l ts) (λ x g. chain_sound l (suc d) x.0 ts x.1 (record { reads = g.reads; low = g.low; tight = omega (arith, g.tight) }))
+      bind_holds (level_sound l ts) (λ x g.
+      chain_sound l (suc d) x.0 ts x.1 (record { reads = g.reads; low = g.low; tight = omega (arith, g.tight) }))
 
 pub expr_sound : (text : Spelling) (d : ℕ) → IsSound text (expr_at text d) d
 unfolding expr_at

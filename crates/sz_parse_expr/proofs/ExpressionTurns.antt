@@ -17,30 +17,34 @@ use Rattle.sz_parse_expr.proofs.Loops.{fails_bind, fails_same}
 -- a turn at an operator
 chain_turn : (sub : Sub) (d l i n : ℕ) (e : Exp) (ts after : List Token) (o : BinaryOp) (r : Read Exp) → i < n
     → operator_at (l + 1) ts ≡ Some (o, after) → loose e ≤ left_loose o → height e ≤ d
-    → bind (sub l after) (λ x. chain_at sub d l (n - (i + 1)) (binary (place_of e) o e x.0) x.1) ≡ r → chain_at sub d l (n - i) e ts ≡ r
+    → bind (sub l after) (λ x. chain_at sub d l (n - (i + 1)) (binary (place_of e) o e x.0) x.1) ≡ r
+    → chain_at sub d l (n - i) e ts ≡ r
 unfolding chain_at
 chain_turn sub d l i n e ts after o r lt op left low h =
     let k : n - i ≡ suc (n - (i + 1)) = omega arith in
     let op' : operator_at (suc l) ts ≡ Some (o, after) = rw (← add-one l) op in
     rw k (choose_some _ _ _ _ _ op' (guard_step _ _ _ (le-leb _ _ left) (guard_step _ _ _ (le-leb _ _ low) h)))
 
-pub chain_goes_on : (sub : Sub) (d l i n : ℕ) (e x : Exp) (ts after rest : List Token) (o : BinaryOp) (r : Read Exp) → i < n
-    → operator_at (l + 1) ts ≡ Some (o, after) → loose e ≤ left_loose o → height e ≤ d
-    → sub l after ≡ Some (x, rest) → chain_at sub d l (n - i) e ts ≡ r → chain_at sub d l (n - (i + 1)) (binary (place_of e) o e x) rest ≡ r
+pub chain_goes_on : (sub : Sub) (d l i n : ℕ) (e x : Exp) (ts after rest : List Token) (o : BinaryOp) (r : Read Exp)
+    → i < n → operator_at (l + 1) ts ≡ Some (o, after) → loose e ≤ left_loose o → height e ≤ d
+    → sub l after ≡ Some (x, rest) → chain_at sub d l (n - i) e ts ≡ r
+    → chain_at sub d l (n - (i + 1)) (binary (place_of e) o e x) rest ≡ r
 chain_goes_on sub d l i n e x ts after rest o r lt op left low h so_far =
     sym (chain_turn sub d l i n e ts after o _ lt op left low (bind_step _ _ _ _ h refl)) ∙ so_far
 
-pub chain_fails : (f : Failed) (sub : Sub) (d l i n : ℕ) (e : Exp) (ts after : List Token) (o : BinaryOp) (r : Read Exp) → i < n
-    → operator_at (l + 1) ts ≡ Some (o, after) → loose e ≤ left_loose o → height e ≤ d
+pub chain_fails : (f : Failed) (sub : Sub) (d l i n : ℕ) (e : Exp) (ts after : List Token) (o : BinaryOp)
+    (r : Read Exp) → i < n → operator_at (l + 1) ts ≡ Some (o, after) → loose e ≤ left_loose o → height e ≤ d
     → Fails f (sub l after) → chain_at sub d l (n - i) e ts ≡ r → Fails f r
 chain_fails f sub d l i n e ts after o r lt op left low h so_far =
-    fails_same f _ _ (sym (chain_turn sub d l i n e ts after o _ lt op left low refl) ∙ so_far) (fails_bind f (sub l after) _ h)
+    fails_same f _ _ (sym (chain_turn sub d l i n e ts after o _ lt op left low refl) ∙ so_far)
+    (fails_bind f (sub l after) _ h)
 
 pub chain_refused : (sub : Sub) (d l i n : ℕ) (e : Exp) (ts after : List Token) (o : BinaryOp) (r : Read Exp) → i < n
     → operator_at (l + 1) ts ≡ Some (o, after) → (left_loose o < loose e) ⊎ (d < height e)
     → chain_at sub d l (n - i) e ts ≡ r → r ≡ None
 unfolding chain_at
-chain_refused sub d l i n e ts after o r lt op high so_far = sym so_far ∙ rw k (choose_some _ _ _ _ _ op' (refused _ high))
+chain_refused sub d l i n e ts after o r lt op high so_far =
+    sym so_far ∙ rw k (choose_some _ _ _ _ _ op' (refused _ high))
   where
     k : n - i ≡ suc (n - (i + 1))
     k = omega arith
@@ -48,19 +52,25 @@ chain_refused sub d l i n e ts after o r lt op high so_far = sym so_far ∙ rw k
     op' : operator_at (suc l) ts ≡ Some (o, after)
     op' = rw (← add-one l) op
 
-    refused : (y : Read Exp) → (left_loose o < loose e) ⊎ (d < height e) → guard (nat_le (loose e) (left_loose o)) (guard (nat_le (height e) d) y) ≡ None
+    refused : (y : Read Exp) → (left_loose o < loose e) ⊎ (d < height e)
+        → guard (nat_le (loose e) (left_loose o)) (guard (nat_le (height e) d) y) ≡ None
     refused y (inl far) = guard_false _ _ (lt-leb _ _ far)
     refused y (inr high) =
-        elim (true_or_false (nat_le (loose e) (left_loose o))) [ inl t ↦ guard_step _ _ _ t (guard_false _ _ (lt-leb _ _ high)) | inr f ↦ guard_false _ _ f ]
+        elim (true_or_false (nat_le (loose e) (left_loose o))) [
+          | inl t ↦ guard_step _ _ _ t (guard_false _ _ (lt-leb _ _ high))
+          | inr f ↦ guard_false _ _ f
+        ]
 
 -- where no operator is left
-pub chain_ends : (sub : Sub) (d l k : ℕ) (e : Exp) (ts : List Token) → operator_at (l + 1) ts ≡ None → chain_at sub d l k e ts ≡ Some (e, ts)
+pub chain_ends : (sub : Sub) (d l k : ℕ) (e : Exp) (ts : List Token) → operator_at (l + 1) ts ≡ None
+    → chain_at sub d l k e ts ≡ Some (e, ts)
 unfolding chain_at
 chain_ends sub d l zero e ts none = refl
 chain_ends sub d l (suc k) e ts none = choose_none _ _ _ _ (rw (← add-one l) none) refl
 
 -- where no turn is left
-pub chain_over : (sub : Sub) (d l i n : ℕ) (e : Exp) (ts : List Token) → n ≤ i → chain_at sub d l (n - i) e ts ≡ Some (e, ts)
+pub chain_over : (sub : Sub) (d l i n : ℕ) (e : Exp) (ts : List Token) → n ≤ i
+    → chain_at sub d l (n - i) e ts ≡ Some (e, ts)
 unfolding chain_at
 chain_over sub d l i n e ts le = let k : n - i ≡ 0 = omega arith in rw k refl
 
@@ -77,19 +87,21 @@ unfolding tail_at part_at bind after_part guard choose
 tail_turn text sub d k e ts = go (part_step text sub e ts) (nat_le (height e) d)
   where
     inside : (r : Read Exp) (b : Bool)
-        → guard b (bind r (λ x. tail_at text sub d k x.0 x.1)) ≡ bind (guard b (bind r (λ x. Some ((x.0, true), x.1)))) (after_part text sub d k)
+        → guard b (bind r (λ x. tail_at text sub d k x.0 x.1))
+        ≡ bind (guard b (bind r (λ x. Some ((x.0, true), x.1)))) (after_part text sub d k)
     inside (Some x) true = refl
     inside None true = refl
     inside r false = refl
 
     go : (o : Option (Read Exp)) (b : Bool)
         → choose o (Some (e, ts)) (λ r. guard b (bind r (λ x. tail_at text sub d k x.0 x.1))) ≡ bind
-        (choose o (Some ((e, false), ts)) (λ r. guard b (bind r (λ x. Some ((x.0, true), x.1))))) (after_part text sub d k)
+        (choose o (Some ((e, false), ts)) (λ r. guard b (bind r (λ x. Some ((x.0, true), x.1)))))
+        (after_part text sub d k)
     go (Some r) b = inside r b
     go None b = refl
 
-pub tail_goes_on : (text : Spelling) (sub : Sub) (d i n : ℕ) (e x : Exp) (b : Bool) (ts rest : List Token) (r : Read Exp) → i < n → b ≡ true
-    → part_at text sub d e ts ≡ Some ((x, b), rest)
+pub tail_goes_on : (text : Spelling) (sub : Sub) (d i n : ℕ) (e x : Exp) (b : Bool) (ts rest : List Token)
+    (r : Read Exp) → i < n → b ≡ true → part_at text sub d e ts ≡ Some ((x, b), rest)
     → tail_at text sub d (n - i) e ts ≡ r → tail_at text sub d (n - (i + 1)) x rest ≡ r
 unfolding after_part
 tail_goes_on text sub d i n e x false ts rest r lt is h so_far = absurd cc
@@ -98,8 +110,8 @@ tail_goes_on text sub d i n e x true ts rest r lt is h so_far =
     let here : tail_at text sub d (suc (n - (i + 1))) e ts ≡ r = rw (← k) so_far in
     sym (bind_step _ _ _ _ h refl) ∙ sym (tail_turn text sub d (n - (i + 1)) e ts) ∙ here
 
-pub tail_stops : (text : Spelling) (sub : Sub) (d i n : ℕ) (e x : Exp) (b : Bool) (ts rest : List Token) (r : Read Exp) → i < n → b ≡ false
-    → part_at text sub d e ts ≡ Some ((x, b), rest)
+pub tail_stops : (text : Spelling) (sub : Sub) (d i n : ℕ) (e x : Exp) (b : Bool) (ts rest : List Token)
+    (r : Read Exp) → i < n → b ≡ false → part_at text sub d e ts ≡ Some ((x, b), rest)
     → tail_at text sub d (n - i) e ts ≡ r → r ≡ Some (x, rest)
 unfolding after_part
 tail_stops text sub d i n e x true ts rest r lt is h so_far = absurd cc
@@ -108,20 +120,22 @@ tail_stops text sub d i n e x false ts rest r lt is h so_far =
     let here : tail_at text sub d (suc (n - (i + 1))) e ts ≡ r = rw (← k) so_far in
     sym here ∙ tail_turn text sub d (n - (i + 1)) e ts ∙ bind_step _ _ _ _ h refl
 
-pub tail_fails : (f : Failed) (text : Spelling) (sub : Sub) (d i n : ℕ) (e : Exp) (ts : List Token) (r : Read Exp) → i < n → Fails f (part_at text sub d e ts)
-    → tail_at text sub d (n - i) e ts ≡ r → Fails f r
+pub tail_fails : (f : Failed) (text : Spelling) (sub : Sub) (d i n : ℕ) (e : Exp) (ts : List Token) (r : Read Exp)
+    → i < n → Fails f (part_at text sub d e ts) → tail_at text sub d (n - i) e ts ≡ r → Fails f r
 tail_fails f text sub d i n e ts r lt h so_far =
     let k : n - i ≡ suc (n - (i + 1)) = omega arith in
     let here : tail_at text sub d (suc (n - (i + 1))) e ts ≡ r = rw (← k) so_far in
     fails_same f _ _ (sym (tail_turn text sub d (n - (i + 1)) e ts) ∙ here) (fails_bind f _ _ h)
 
-pub tail_over : (text : Spelling) (sub : Sub) (d i n : ℕ) (e : Exp) (ts : List Token) → n ≤ i → tail_at text sub d (n - i) e ts ≡ Some (e, ts)
+pub tail_over : (text : Spelling) (sub : Sub) (d i n : ℕ) (e : Exp) (ts : List Token) → n ≤ i
+    → tail_at text sub d (n - i) e ts ≡ Some (e, ts)
 unfolding tail_at
 tail_over text sub d i n e ts le = let k : n - i ≡ 0 = omega arith in rw k refl
 
 -- ---- items with a comma before each
 
-pub comma_here : (sub : Sub) (ts after : List Token) → after_sign signs.Comma ts ≡ Some after → comma_step sub ts ≡ Some (sub 5 after)
+pub comma_here : (sub : Sub) (ts after : List Token) → after_sign signs.Comma ts ≡ Some after
+    → comma_step sub ts ≡ Some (sub 5 after)
 unfolding comma_step
 comma_here sub ts after c = choose_some _ _ _ _ _ c refl
 
@@ -129,7 +143,8 @@ pub comma_gone : (sub : Sub) (ts : List Token) → after_sign signs.Comma ts ≡
 unfolding comma_step
 comma_gone sub ts c = choose_none _ _ _ _ c refl
 
-pub pair_here : (sub : Sub) (ts after : List Token) → after_sign signs.Comma ts ≡ Some after → pair_step sub ts ≡ Some (pair_at sub after)
+pub pair_here : (sub : Sub) (ts after : List Token) → after_sign signs.Comma ts ≡ Some after
+    → pair_step sub ts ≡ Some (pair_at sub after)
 unfolding pair_step
 pair_here sub ts after c = choose_some _ _ _ _ _ c refl
 

@@ -21,14 +21,14 @@ nothing = None
 pub none_holds : {A : Type 0} (P : A → Type 0) → Holds nothing P
 none_holds P = record { holds = λ y e. absurd cc }
 
-pub bind_holds : {A B : Type 0} {o : Option A} {P : A → Type 0} {f : A → Option B} {Q : B → Type 0} → Holds o P → ((x : A) → P x → Holds (f x) Q)
-    → Holds (o >>= f) Q
+pub bind_holds : {A B : Type 0} {o : Option A} {P : A → Type 0} {f : A → Option B} {Q : B → Type 0} → Holds o P
+    → ((x : A) → P x → Holds (f x) Q) → Holds (o >>= f) Q
 unfolding bind
 bind_holds {o = Some x} h k = k x (h.holds x refl)
 bind_holds {o = None} h k = none_holds _
 
-pub choose_holds : {A B : Type 0} {o : Option A} {P : A → Type 0} {y : Option B} {f : A → Option B} {Q : B → Type 0} → Holds o P → Holds y Q
-    → ((x : A) → P x → Holds (f x) Q) → Holds (choose o y f) Q
+pub choose_holds : {A B : Type 0} {o : Option A} {P : A → Type 0} {y : Option B} {f : A → Option B} {Q : B → Type 0}
+    → Holds o P → Holds y Q → ((x : A) → P x → Holds (f x) Q) → Holds (choose o y f) Q
 unfolding choose
 choose_holds {o = Some x} h n k = k x (h.holds x refl)
 choose_holds {o = None} h n k = n
@@ -46,8 +46,8 @@ pub weaker : {A : Type 0} {o : Option A} {P Q : A → Type 0} → Holds o P → 
 weaker h k = record { holds = λ x e. k x (h.holds x e) }
 
 -- the same, where the first side is known to have nothing
-pub chosen_holds : {A B : Type 0} {o : Option A} {P : A → Type 0} {y : Option B} {f : A → Option B} {Q : B → Type 0} → Holds o P
-    → (o ≡ None → Holds y Q) → ((x : A) → P x → Holds (f x) Q) → Holds (choose o y f) Q
+pub chosen_holds : {A B : Type 0} {o : Option A} {P : A → Type 0} {y : Option B} {f : A → Option B} {Q : B → Type 0}
+    → Holds o P → (o ≡ None → Holds y Q) → ((x : A) → P x → Holds (f x) Q) → Holds (choose o y f) Q
 unfolding choose
 chosen_holds {o = Some x} h n k = k x (h.holds x refl)
 chosen_holds {o = None} h n k = n refl

@@ -131,18 +131,21 @@ unary_of_sign unaries.Plus = refl
 unary_of_sign unaries.Not = refl
 unary_of_sign unaries.Complement = refl
 
-pub operator_is : (o : BinaryOp) (l : ℕ) (ts rest : List Token) → IsSign (sign_of o) ts rest → loose_of o ≡ l → operator_at l ts ≡ Some (o, rest)
+pub operator_is : (o : BinaryOp) (l : ℕ) (ts rest : List Token) → IsSign (sign_of o) ts rest → loose_of o ≡ l
+    → operator_at l ts ≡ Some (o, rest)
 unfolding operator_at
 operator_is o l ts rest h e = rw (h.is, binary_of_sign o, eq-eqb (loose_of o) l e) refl
 
 -- no operator of this level is here
-no_operator_of : (l : ℕ) (m : Option BinaryOp) (ts : List Token) → ((o : BinaryOp) → m ≡ Some o → l < loose_of o) → operator_here l m ts ≡ None
+no_operator_of : (l : ℕ) (m : Option BinaryOp) (ts : List Token) → ((o : BinaryOp) → m ≡ Some o → l < loose_of o)
+    → operator_here l m ts ≡ None
 no_operator_of l (Some o) ts h = rw (ne_eqb (loose_of o) l (λ q. omega (arith, q, h o refl))) refl
 no_operator_of l None ts h = refl
 
 operator_none_kind : (l : ℕ) (k : Kind) (ts : List Token) → l < kind_grip k → operator_here l (binary_of k) ts ≡ None
 operator_none_kind l (kinds.Sign s) ts h =
-    no_operator_of l (sign_binary s) ts (λ o e. omega (arith, h, (looseness o).grips, ap sign_grip ((sign_binary_sound s).holds o e)))
+    no_operator_of l (sign_binary s) ts
+    (λ o e. omega (arith, h, (looseness o).grips, ap sign_grip ((sign_binary_sound s).holds o e)))
 operator_none_kind l kinds.Name ts h = refl
 operator_none_kind l (kinds.Word w) ts h = refl
 operator_none_kind l (kinds.Number n) ts h = refl
@@ -208,8 +211,10 @@ reads_starts text (field p e n) ts rest h = reads_starts text e ts _ h.4
 reads_starts text (unary p o e) ts rest h = rw h.1.is (unary_starts o)
 reads_starts text (binary p o l r) ts rest h = reads_starts text l ts _ h.4
 
-no_start_here : (s : Sign) (k : Kind) (ts : List Token) → starts_sign s ≡ false → starts_kind k ≡ true → sign_here s k ts ≡ None
-no_start_here s (kinds.Sign r) ts f h = rw (false_same sign_type tt r s (λ e. clash (sym h ∙ ap starts_sign e ∙ f))) refl
+no_start_here : (s : Sign) (k : Kind) (ts : List Token) → starts_sign s ≡ false → starts_kind k ≡ true
+    → sign_here s k ts ≡ None
+no_start_here s (kinds.Sign r) ts f h =
+    rw (false_same sign_type tt r s (λ e. clash (sym h ∙ ap starts_sign e ∙ f))) refl
   where
     clash : true ≡ false → ⊥
     clash e = cc

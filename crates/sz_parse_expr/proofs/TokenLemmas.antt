@@ -31,7 +31,8 @@ use Rattle.sz_parse_expr.proofs.Holds.{Holds, some_holds, none_holds, if_holds}
 
 -- ---- what is read is there
 
-sign_here_sound : (s : Sign) (t : Token) (k : Kind) (ts : List Token) → t.kind ≡ k → Holds (sign_here s k ts) (λ r. IsSign s (t ∷ ts) r)
+sign_here_sound : (s : Sign) (t : Token) (k : Kind) (ts : List Token) → t.kind ≡ k
+    → Holds (sign_here s k ts) (λ r. IsSign s (t ∷ ts) r)
 sign_here_sound s t (kinds.Sign r) ts e =
     if_holds _ _ _ (λ q. record {
       place = t.place;
@@ -47,7 +48,8 @@ unfolding after_sign
 after_sign_sound s [] = none_holds _
 after_sign_sound s (t ∷ ts) = sign_here_sound s t t.kind ts refl
 
-word_here_sound : (w : Word) (t : Token) (k : Kind) (ts : List Token) → t.kind ≡ k → Holds (word_here w k ts) (λ r. IsWord w (t ∷ ts) r)
+word_here_sound : (w : Word) (t : Token) (k : Kind) (ts : List Token) → t.kind ≡ k
+    → Holds (word_here w k ts) (λ r. IsWord w (t ∷ ts) r)
 word_here_sound w t (kinds.Word v) ts e =
     if_holds _ _ _ (λ q. record {
       place = t.place;
@@ -64,7 +66,8 @@ after_word_sound w [] = none_holds _
 after_word_sound w (t ∷ ts) = word_here_sound w t t.kind ts refl
 
 -- a token that is a name, with what it spells
-pub here_is_name : (text : Spelling) (t : Token) (ts : List Token) → t.kind ≡ kinds.Name → AtName text (ident_of text t) (t ∷ ts) ts
+pub here_is_name : (text : Spelling) (t : Token) (ts : List Token) → t.kind ≡ kinds.Name
+    → AtName text (ident_of text t) (t ∷ ts) ts
 here_is_name text t ts e = record {
   start = t.start;
   len = t.len;
@@ -72,7 +75,8 @@ here_is_name text t ts e = record {
   spelled = ap (λ (k : Kind). text (token k t.place t.start t.len)) e;
 }
 
-name_here_sound : (text : Spelling) (t : Token) (k : Kind) (ts : List Token) → t.kind ≡ k → Holds (name_here text t k ts) (λ r. AtName text r.0 (t ∷ ts) r.1)
+name_here_sound : (text : Spelling) (t : Token) (k : Kind) (ts : List Token) → t.kind ≡ k
+    → Holds (name_here text t k ts) (λ r. AtName text r.0 (t ∷ ts) r.1)
 name_here_sound text t kinds.Name ts e =
     some_holds _ _ (here_is_name text t ts e)
 name_here_sound text t _ ts e = none_holds _
@@ -89,7 +93,8 @@ unfolding after_sign
 after_sign_is s ts rest h = rw (h.is, true_same sign_type s s refl) refl
 
 -- another sign is there
-pub other_sign : (s r : Sign) (ts rest : List Token) → IsSign r ts rest → sameb sign_type r s ≡ false → after_sign s ts ≡ None
+pub other_sign : (s r : Sign) (ts rest : List Token) → IsSign r ts rest → sameb sign_type r s ≡ false
+    → after_sign s ts ≡ None
 unfolding after_sign
 other_sign s r ts rest h e = rw (h.is, e) refl
 
@@ -97,13 +102,16 @@ pub after_word_is : (w : Word) (ts rest : List Token) → IsWord w ts rest → a
 unfolding after_word
 after_word_is w ts rest h = rw (h.is, true_same word_type w w refl) refl
 
-pub other_word : (w v : Word) (ts rest : List Token) → IsWord v ts rest → sameb word_type v w ≡ false → after_word w ts ≡ None
+pub other_word : (w v : Word) (ts rest : List Token) → IsWord v ts rest → sameb word_type v w ≡ false
+    → after_word w ts ≡ None
 unfolding after_word
 other_word w v ts rest h e = rw (h.is, e) refl
 
-pub name_is : (text : Spelling) (n : Ident) (ts rest : List Token) → AtName text n ts rest → name_at text ts ≡ Some (n, rest)
+pub name_is : (text : Spelling) (n : Ident) (ts rest : List Token) → AtName text n ts rest
+    → name_at text ts ≡ Some (n, rest)
 unfolding name_at
-name_is text n ts rest h = rw h.is (ap (λ (t : List ℕ). Some (record { place = n.place; text = t }, rest)) (sym h.spelled))
+name_is text n ts rest h =
+    rw h.is (ap (λ (t : List ℕ). Some (record { place = n.place; text = t }, rest)) (sym h.spelled))
 
 -- ---- each is one token
 
@@ -113,7 +121,8 @@ at_length h = ap length h.is
 pub is_length : {k : Kind} {ts rest : List Token} → Is k ts rest → length ts ≡ suc (length rest)
 is_length h = ap length h.is
 
-pub name_length : {text : Spelling} {n : Ident} {ts rest : List Token} → AtName text n ts rest → length ts ≡ suc (length rest)
+pub name_length : {text : Spelling} {n : Ident} {ts rest : List Token} → AtName text n ts rest
+    → length ts ≡ suc (length rest)
 name_length h = ap length h.is
 
 -- ---- the bytes of a token
@@ -140,10 +149,13 @@ decoded_sound q l = go (bytes_eq (take (length (opening q)) l) (opening q)) refl
     body = drop (length (opening q)) l
 
     front : bytes_eq (take (length (opening q)) l) (opening q) ≡ true → l ≡ opening q ++ body
-    front e = sym (take-append-drop (length (opening q)) l) ∙ ap (λ (t : List ℕ). t ++ body) ((bytes_eq-Decides (take (length (opening q)) l) (opening q)).0 e)
+    front e = sym (take-append-drop (length (opening q)) l)
+        ∙ ap (λ (t : List ℕ). t ++ body) ((bytes_eq-Decides (take (length (opening q)) l) (opening q)).0 e)
 
     go : (b : Bool) → bytes_eq (take (length (opening q)) l) (opening q) ≡ b → Holds (decoded q l) (IsQuoted q l)
-    go true e = record { holds = λ v h. subst (λ (t : List ℕ). IsQuoted q t v) (sym (front e)) (whole_found q body v (sym (rw e at h))) }
+    go true e = record {
+      holds = λ v h. subst (λ (t : List ℕ). IsQuoted q t v) (sym (front e)) (whole_found q body v (sym (rw e at h)));
+    }
     go false e = record { holds = λ v h. absurd (none_is v (rw e at h)) }
       where
         none_is : (v : List ℕ) → None ≡ Some v → ⊥
@@ -153,12 +165,17 @@ pub decoded_is : (q : Quoted) (l v : List ℕ) → IsQuoted q l v → decoded q 
 unfolding decoded
 decoded_is q l v h =
     let o = opened q l v h in
-    let front : take (length (opening q)) l ≡ opening q = ap (take (length (opening q))) o.spelled ∙ take_at (opening q) o.body (length (opening q)) refl in
-    let test : bytes_eq (take (length (opening q)) l) (opening q) ≡ true = (bytes_eq-Decides (take (length (opening q)) l) (opening q)).1 front in
-    let body : drop (length (opening q)) l ≡ o.body = ap (drop (length (opening q))) o.spelled ∙ drop_at (opening q) o.body (length (opening q)) refl in
-    let read : body_at q 0 o.body ≡ Some (record { len = length o.body; value = v }) = ap (body_at q 0) (sym (append-nil o.body)) ∙ o.read [] in
+    let front : take (length (opening q)) l ≡ opening q =
+    ap (take (length (opening q))) o.spelled ∙ take_at (opening q) o.body (length (opening q)) refl in
+    let test : bytes_eq (take (length (opening q)) l) (opening q) ≡ true =
+    (bytes_eq-Decides (take (length (opening q)) l) (opening q)).1 front in
+    let body : drop (length (opening q)) l ≡ o.body =
+    ap (drop (length (opening q))) o.spelled ∙ drop_at (opening q) o.body (length (opening q)) refl in
+    let read : body_at q 0 o.body ≡ Some (record { len = length o.body; value = v }) =
+    ap (body_at q 0) (sym (append-nil o.body)) ∙ o.read [] in
     let same : eqb (length o.body) (length o.body) ≡ true = eq-eqb (length o.body) (length o.body) refl in
-    rw test (ap (λ (b : List ℕ). whole_value (length b) (body_at q 0 b)) body ∙ ap (whole_value (length o.body)) read ∙ rw same refl)
+    rw test (ap (λ (b : List ℕ). whole_value (length b) (body_at q 0 b)) body
+    ∙ ap (whole_value (length o.body)) read ∙ rw same refl)
 
 pub decoded_none : (q : Quoted) (l : List ℕ) → ((v : List ℕ) → IsQuoted q l v → ⊥) → decoded q l ≡ None
 decoded_none q l none = go (decoded q l) refl

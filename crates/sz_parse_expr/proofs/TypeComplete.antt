@@ -27,17 +27,21 @@ use Rattle.sz_parse_expr.proofs.TokenLemmas.{after_sign_is, other_sign, after_wo
 use Rattle.sz_parse_expr.proofs.TypeSound.{IsSoundType, ReadsParam, ParamItem, ReadsField, FieldItem, param_item, field_item, type_sound}
 
 abbrev pub IsCompleteType : Spelling → SubType → ℕ → Type 0
-IsCompleteType text sub d = (t : Typ) (ts rest : List Token) → ReadsType text t ts rest → type_height t ≤ d → sub ts ≡ Some (t, rest)
+IsCompleteType text sub d = (t : Typ) (ts rest : List Token) → ReadsType text t ts rest → type_height t ≤ d
+    → sub ts ≡ Some (t, rest)
 
-pub label_is : (text : Spelling) (n : Ident) (ts a rest : List Token) → AtName text n ts a → IsSign signs.Colon a rest → label_at text ts ≡ Some (n, rest)
+pub label_is : (text : Spelling) (n : Ident) (ts a rest : List Token) → AtName text n ts a → IsSign signs.Colon a rest
+    → label_at text ts ≡ Some (n, rest)
 unfolding label_at
-label_is text n ts a rest at c = bind_step _ _ _ _ (name_is text n ts a at) (bind_step _ _ _ _ (after_sign_is signs.Colon a rest c) refl)
+label_is text n ts a rest at c =
+    bind_step _ _ _ _ (name_is text n ts a at) (bind_step _ _ _ _ (after_sign_is signs.Colon a rest c) refl)
 
 pub number_is : (n : ℤ) (ts rest : List Token) → Is (kinds.Number n) ts rest → number_at ts ≡ Some (n, rest)
 unfolding number_at
 number_is n ts rest h = rw h.is refl
 
-no_name_here : (text : Spelling) (t : Token) (k : Kind) (ts : List Token) → t.kind ≡ k → ((n : Ident) (a : List Token) → AtName text n (t ∷ ts) a → ⊥)
+no_name_here : (text : Spelling) (t : Token) (k : Kind) (ts : List Token) → t.kind ≡ k
+    → ((n : Ident) (a : List Token) → AtName text n (t ∷ ts) a → ⊥)
     → name_here text t k ts ≡ None
 no_name_here text t kinds.Name ts e h =
     absurd (h (ident_of text t) ts (here_is_name text t ts e))
@@ -48,18 +52,22 @@ no_name_here text t kinds.Str ts e h = refl
 no_name_here text t kinds.Bytes ts e h = refl
 no_name_here text t (kinds.Sign s) ts e h = refl
 
-no_name : (text : Spelling) (ts : List Token) → ((n : Ident) (a : List Token) → AtName text n ts a → ⊥) → name_at text ts ≡ None
+no_name : (text : Spelling) (ts : List Token) → ((n : Ident) (a : List Token) → AtName text n ts a → ⊥)
+    → name_at text ts ≡ None
 unfolding name_at
 no_name text [] h = refl
 no_name text (t ∷ ts) h = no_name_here text t t.kind ts refl h
 
-maybe_name_is : (text : Spelling) (n : Option Ident) (ts rest : List Token) → ReadsName text n ts rest → maybe_name_at text ts ≡ Some (n, rest)
+maybe_name_is : (text : Spelling) (n : Option Ident) (ts rest : List Token) → ReadsName text n ts rest
+    → maybe_name_at text ts ≡ Some (n, rest)
 unfolding maybe_name_at
-maybe_name_is text None ts rest h = choose_none _ _ _ _ (no_name text ts h.1) (ap (λ (r : List Token). Some (None, r)) h.0)
+maybe_name_is text None ts rest h =
+    choose_none _ _ _ _ (no_name text ts h.1) (ap (λ (r : List Token). Some (None, r)) h.0)
 maybe_name_is text (Some n) ts rest h = choose_some _ _ _ _ _ (name_is text n ts rest h) refl
 
 -- where a type begins and no colon follows it, no name with a colon after it begins
-no_label : (text : Spelling) (t : Typ) (ts rest : List Token) → ReadsType text t ts rest → after_sign signs.Colon rest ≡ None → label_at text ts ≡ None
+no_label : (text : Spelling) (t : Typ) (ts rest : List Token) → ReadsType text t ts rest
+    → after_sign signs.Colon rest ≡ None → label_at text ts ≡ None
 unfolding label_at ReadsType name_at
 no_label text (basic p b) ts rest re none = bind_none _ _ (rw re.is refl)
 no_label text (type_name n) ts rest re none = bind_step _ _ _ _ (name_is text n ts rest re) (bind_none _ _ none)
@@ -86,17 +94,23 @@ fields_list no_fields = refl
 fields_list (proto_field n t k l fs) = ap (proto_field n t k l) (fields_list fs)
 
 module _ (text : Spelling) (sub : SubType) (d : ℕ) (s : IsSoundType text sub d) (h : IsCompleteType text sub d) where
-  pub elem_complete : (n : Option Ident) (t : Typ) (ts a rest : List Token) → ReadsLabel text n ts a → ReadsType text t a rest → type_height t ≤ d
+  pub elem_complete : (n : Option Ident) (t : Typ) (ts a rest : List Token) → ReadsLabel text n ts a
+      → ReadsType text t a rest → type_height t ≤ d
       → after_sign signs.Colon rest ≡ None → elem_at text sub ts ≡ Some (record { name = n; of = t }, rest)
   unfolding elem_at
-  elem_complete None t ts a rest l re low none = rw l (choose_none _ _ _ _ (no_label text t a rest re none) (bind_step _ _ _ _ (h t a rest re low) refl))
-  elem_complete (Some n) t ts a rest l re low none = choose_some _ _ _ _ _ (label_is text n ts l.0 a l.1 l.2) (bind_step _ _ _ _ (h t a rest re low) refl)
+  elem_complete None t ts a rest l re low none =
+      rw l (choose_none _ _ _ _ (no_label text t a rest re none) (bind_step _ _ _ _ (h t a rest re low) refl))
+  elem_complete (Some n) t ts a rest l re low none =
+      choose_some _ _ _ _ _ (label_is text n ts l.0 a l.1 l.2) (bind_step _ _ _ _ (h t a rest re low) refl)
 
-  param_complete : (p : Ident × Typ) (ts rest : List Token) → ReadsParam text d p ts rest → param_at text sub ts ≡ Some (p, rest)
+  param_complete : (p : Ident × Typ) (ts rest : List Token) → ReadsParam text d p ts rest
+      → param_at text sub ts ≡ Some (p, rest)
   unfolding param_at
-  param_complete p ts rest i = bind_step _ _ _ _ (label_is text p.0 ts i.a i.b i.name i.colon) (bind_step _ _ _ _ (h p.1 i.b rest i.reads i.low) refl)
+  param_complete p ts rest i = bind_step _ _ _ _ (label_is text p.0 ts i.a i.b i.name i.colon)
+      (bind_step _ _ _ _ (h p.1 i.b rest i.reads i.low) refl)
 
-  field_complete : (f : FieldForm) (ts rest : List Token) → ReadsField text d f ts rest → proto_field_at text sub ts ≡ Some (f, rest)
+  field_complete : (f : FieldForm) (ts rest : List Token) → ReadsField text d f ts rest
+      → proto_field_at text sub ts ≡ Some (f, rest)
   unfolding proto_field_at
   field_complete f ts rest i =
       bind_step _ _ _ _ (param_complete (f.name, f.of) ts i.a i.param)
@@ -119,16 +133,22 @@ module _ (text : Spelling) (sub : SubType) (d : ℕ) (s : IsSoundType text sub d
     begins = λ x ts rest i. tt;
   }
 
-  param_items : (ps : Params) (ts rest : List Token) → ReadsMoreParams text ps ts rest → param_heights ps ≤ d → Many (ParamItem text d) (param_list ps) ts rest
+  param_items : (ps : Params) (ts rest : List Token) → ReadsMoreParams text ps ts rest → param_heights ps ≤ d
+      → Many (ParamItem text d) (param_list ps) ts rest
   unfolding Many ReadsType type_height
   param_items no_params ts rest re low = re
   param_items (param n t ps) ts rest re low = (
     re.3,
-    record { later = re.0; comma = re.4; item = record { a = re.1; b = re.2; name = re.5; colon = re.6; reads = re.7; low = omega arith } },
+    record {
+      later = re.0;
+      comma = re.4;
+      item = record { a = re.1; b = re.2; name = re.5; colon = re.6; reads = re.7; low = omega arith };
+    },
     param_items ps re.3 rest re.8 (omega arith),
   )
 
-  field_items : (fs : Fields) (ts rest : List Token) → ReadsMoreFields text fs ts rest → field_heights fs ≤ d → Many (FieldItem text d) (field_list fs) ts rest
+  field_items : (fs : Fields) (ts rest : List Token) → ReadsMoreFields text fs ts rest → field_heights fs ≤ d
+      → Many (FieldItem text d) (field_list fs) ts rest
   unfolding Many ReadsType type_height
   field_items no_fields ts rest re low = re
   field_items (proto_field n t k l fs) ts rest re low = (
@@ -150,27 +170,37 @@ module _ (text : Spelling) (sub : SubType) (d : ℕ) (s : IsSoundType text sub d
     field_items fs re.6 rest re.14 (omega arith),
   )
 
-  no_param : (r : Sign) (ts rest : List Token) → IsSign r ts rest → sameb sign_type r signs.Comma ≡ false → param_step text sub ts ≡ None
+  no_param : (r : Sign) (ts rest : List Token) → IsSign r ts rest → sameb sign_type r signs.Comma ≡ false
+      → param_step text sub ts ≡ None
   unfolding param_step
   no_param r ts rest c e = choose_none _ _ _ _ (other_sign signs.Comma r ts rest c e) refl
 
-  no_field : (r : Sign) (ts rest : List Token) → IsSign r ts rest → sameb sign_type r signs.Comma ≡ false → proto_field_step text sub ts ≡ None
+  no_field : (r : Sign) (ts rest : List Token) → IsSign r ts rest → sameb sign_type r signs.Comma ≡ false
+      → proto_field_step text sub ts ≡ None
   unfolding proto_field_step
   no_field r ts rest c e = choose_none _ _ _ _ (other_sign signs.Comma r ts rest c e) refl
 
   -- names with their types, before a sign that is no comma
-  pub params_complete : (r : Sign) (ps : Params) (ts rest after : List Token) → ReadsParams text ps ts rest → param_heights ps ≤ d
-      → IsSign r rest after → sameb sign_type r signs.Comma ≡ false
+  pub params_complete : (r : Sign) (ps : Params) (ts rest after : List Token) → ReadsParams text ps ts rest
+      → param_heights ps ≤ d → IsSign r rest after → sameb sign_type r signs.Comma ≡ false
       → (x : List (Ident × Typ)) × (params_at text sub ts ≡ Some (x, rest)) × (params_of x ≡ ps)
   unfolding params_at params_after ReadsType type_height
   params_complete r no_params ts rest after re low c other = absurd re
   params_complete r (param n t ps) ts rest after re low c other =
-      let first = param_complete (n, t) ts re.2 (record { a = re.0; b = re.1; name = re.3; colon = re.4; reads = re.5; low = omega arith }) in
-      let m = all_complete (param_item text sub d s) param_found (param_list ps) re.2 rest (param_items ps re.2 rest re.6 (omega arith)) tt
-      (no_param r rest after c other) in
+      let first = param_complete (n, t) ts re.2 (record {
+        a = re.0;
+        b = re.1;
+        name = re.3;
+        colon = re.4;
+        reads = re.5;
+        low = omega arith;
+      }) in
+      let m = all_complete (param_item text sub d s) param_found (param_list ps) re.2 rest
+      (param_items ps re.2 rest re.6 (omega arith)) tt (no_param r rest after c other) in
       ((n, t) ∷ param_list ps, bind_step _ _ _ _ first (bind_step _ _ _ _ m refl), ap (param n t) (params_list ps))
 
-  fields_complete : (fs : Fields) (ts rest after : List Token) → ReadsFields text fs ts rest → field_heights fs ≤ d → IsSign signs.CloseBrace rest after
+  fields_complete : (fs : Fields) (ts rest after : List Token) → ReadsFields text fs ts rest → field_heights fs ≤ d
+      → IsSign signs.CloseBrace rest after
       → (x : List FieldForm) × (proto_fields_at text sub ts ≡ Some (x, rest)) × (fields_of x ≡ fs)
   unfolding proto_fields_at proto_fields_after ReadsType type_height
   fields_complete no_fields ts rest after re low c = absurd re
@@ -186,7 +216,8 @@ module _ (text : Spelling) (sub : SubType) (d : ℕ) (s : IsSoundType text sub d
         number = re.10;
         label = re.11;
       }) in
-      let m = all_complete (field_item text sub d s) field_found (field_list fs) re.5 rest (field_items fs re.5 rest re.12 (omega arith)) tt
+      let m = all_complete (field_item text sub d s) field_found (field_list fs) re.5 rest
+      (field_items fs re.5 rest re.12 (omega arith)) tt
       (no_field signs.CloseBrace rest after c refl) in (
         record { name = n; of = t; number = k; label = l } ∷ field_list fs,
         bind_step _ _ _ _ first (bind_step _ _ _ _ m refl),
@@ -202,25 +233,31 @@ module _ (text : Spelling) (sub : SubType) (d : ℕ) (s : IsSoundType text sub d
   basic_complete p basics.Bytes ts rest h = rw h.is refl
   basic_complete p basics.Time ts rest h = rw h.is refl
 
-  step_complete : (t : Typ) (ts rest : List Token) → ReadsType text t ts rest → type_height t ≤ suc d → type_step text sub ts ≡ Some (t, rest)
+  step_complete : (t : Typ) (ts rest : List Token) → ReadsType text t ts rest → type_height t ≤ suc d
+      → type_step text sub ts ≡ Some (t, rest)
   unfolding type_step array_at map_type_at tuple_at proto_at ReadsType type_height
   step_complete (basic p b) ts rest re low = basic_complete p b ts rest re
-  step_complete (type_name n) ts rest re low = rw re.is (ap (λ (t : List ℕ). Some (type_name (record { place = n.place; text = t }), rest)) (sym re.spelled))
+  step_complete (type_name n) ts rest re low =
+      rw re.is (ap (λ (t : List ℕ). Some (type_name (record { place = n.place; text = t }), rest)) (sym re.spelled))
   step_complete (array p t) ts rest re low =
-      rw re.2.is (bind_step _ _ _ _ (after_word_is words.Of re.0 re.1 re.3) (bind_step _ _ _ _ (h t re.1 rest re.4 (omega arith)) refl))
+      rw re.2.is (bind_step _ _ _ _ (after_word_is words.Of re.0 re.1 re.3)
+      (bind_step _ _ _ _ (h t re.1 rest re.4 (omega arith)) refl))
   step_complete (map_type p n k v) ts rest re low =
       rw re.6.is (bind_step _ _ _ _ (after_sign_is signs.OpenBracket re.0 re.1 re.7)
-      (bind_step _ _ _ _ (elem_complete n k re.1 re.2 re.3 re.8 re.9 (omega arith) (other_sign signs.Colon signs.CloseBracket re.3 re.4 re.10 refl))
+      (bind_step _ _ _ _ (elem_complete n k re.1 re.2 re.3 re.8 re.9 (omega arith)
+      (other_sign signs.Colon signs.CloseBracket re.3 re.4 re.10 refl))
       (bind_step _ _ _ _ (after_sign_is signs.CloseBracket re.3 re.4 re.10)
       (bind_step _ _ _ _ (after_word_is words.Of re.4 re.5 re.11)
       (bind_step _ _ _ _ (h v re.5 rest re.12 (omega arith)) refl)))))
   step_complete (tuple p ps) ts rest re low =
       let m = params_complete signs.CloseBrace ps re.0 re.1 rest re.3 (omega arith) re.4 refl in
-      rw re.2.is (bind_step _ _ _ _ m.1 (bind_step _ _ _ _ (after_sign_is signs.CloseBrace re.1 rest re.4) (ap (λ (ps : Params). Some (tuple p ps, rest)) m.2)))
+      rw re.2.is (bind_step _ _ _ _ m.1 (bind_step _ _ _ _ (after_sign_is signs.CloseBrace re.1 rest re.4)
+      (ap (λ (ps : Params). Some (tuple p ps, rest)) m.2)))
   step_complete (proto p fs) ts rest re low =
       let m = fields_complete fs re.1 re.2 rest re.5 (omega arith) re.6 in
       rw re.3.is (bind_step _ _ _ _ (after_sign_is signs.OpenBrace re.0 re.1 re.4)
-      (bind_step _ _ _ _ m.1 (bind_step _ _ _ _ (after_sign_is signs.CloseBrace re.2 rest re.6) (ap (λ (fs : Fields). Some (proto p fs, rest)) m.2))))
+      (bind_step _ _ _ _ m.1 (bind_step _ _ _ _ (after_sign_is signs.CloseBrace re.2 rest re.6)
+      (ap (λ (fs : Fields). Some (proto p fs, rest)) m.2))))
 
 type_height_positive : (t : Typ) → 0 < type_height t
 unfolding type_height
@@ -230,4 +267,5 @@ type_height_positive _ = omega arith
 pub type_complete : (text : Spelling) (d : ℕ) → IsCompleteType text (type_at text d) d
 unfolding type_at
 type_complete text zero t ts rest re low = absurd (omega (arith, type_height_positive t))
-type_complete text (suc d) t ts rest re low = step_complete text (type_at text d) d (type_sound text d) (type_complete text d) t ts rest re low
+type_complete text (suc d) t ts rest re low =
+    step_complete text (type_at text d) d (type_sound text d) (type_complete text d) t ts rest re low

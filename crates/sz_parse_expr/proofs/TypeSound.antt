@@ -42,18 +42,31 @@ module _ (text : Spelling) where
     type_shorter (type_name n) ts rest h = omega (arith, name_length h)
     type_shorter (array p t) ts rest h = omega (arith, at_length h.2, is_length h.3, type_shorter t _ _ h.4)
     type_shorter (map_type p n k v) ts rest h =
-        omega (arith, at_length h.6, is_length h.7, label_shorter n _ _ h.8, type_shorter k _ _ h.9, is_length h.10, is_length h.11, type_shorter v _ _ h.12)
+        omega (
+          arith,
+          at_length h.6,
+          is_length h.7,
+          label_shorter n _ _ h.8,
+          type_shorter k _ _ h.9,
+          is_length h.10,
+          is_length h.11,
+          type_shorter v _ _ h.12,
+        )
     type_shorter (tuple p ps) ts rest h = omega (arith, at_length h.2, params_shorter ps _ _ h.3, is_length h.4)
-    type_shorter (proto p fs) ts rest h = omega (arith, at_length h.3, is_length h.4, fields_shorter fs _ _ h.5, is_length h.6)
+    type_shorter (proto p fs) ts rest h =
+        omega (arith, at_length h.3, is_length h.4, fields_shorter fs _ _ h.5, is_length h.6)
 
     pub params_shorter : (ps : Params) (ts rest : List Token) → ReadsParams text ps ts rest → length rest < length ts
     params_shorter no_params ts rest h = absurd h
-    params_shorter (param n t ps) ts rest h = omega (arith, name_length h.3, is_length h.4, type_shorter t _ _ h.5, more_params_shorter ps _ _ h.6)
+    params_shorter (param n t ps) ts rest h =
+        omega (arith, name_length h.3, is_length h.4, type_shorter t _ _ h.5, more_params_shorter ps _ _ h.6)
 
-    more_params_shorter : (ps : Params) (ts rest : List Token) → ReadsMoreParams text ps ts rest → length rest ≤ length ts
+    more_params_shorter : (ps : Params) (ts rest : List Token) → ReadsMoreParams text ps ts rest
+        → length rest ≤ length ts
     more_params_shorter no_params ts rest h = omega (arith, ap length h)
     more_params_shorter (param n t ps) ts rest h =
-        omega (arith, is_length h.4, name_length h.5, is_length h.6, type_shorter t _ _ h.7, more_params_shorter ps _ _ h.8)
+        omega
+        (arith, is_length h.4, name_length h.5, is_length h.6, type_shorter t _ _ h.7, more_params_shorter ps _ _ h.8)
 
     fields_shorter : (fs : Fields) (ts rest : List Token) → ReadsFields text fs ts rest → length rest < length ts
     fields_shorter no_fields ts rest h = absurd h
@@ -69,7 +82,8 @@ module _ (text : Spelling) where
           more_fields_shorter fs _ _ h.12,
         )
 
-    more_fields_shorter : (fs : Fields) (ts rest : List Token) → ReadsMoreFields text fs ts rest → length rest ≤ length ts
+    more_fields_shorter : (fs : Fields) (ts rest : List Token) → ReadsMoreFields text fs ts rest
+        → length rest ≤ length ts
     more_fields_shorter no_fields ts rest h = omega (arith, ap length h)
     more_fields_shorter (proto_field n t k l fs) ts rest h =
         omega (
@@ -140,11 +154,18 @@ pub label_sound : (text : Spelling) (ts : List Token) → Holds (label_at text t
 unfolding label_at
 label_sound text ts =
     bind_holds (name_sound text ts)
-    (λ n at. bind_holds (after_sign_sound signs.Colon n.1) (λ r c. some_holds _ _ (record { later = n.1; name = at; colon = c })))
+    (λ n at. bind_holds (after_sign_sound signs.Colon n.1)
+    (λ r c. some_holds _ _ (record { later = n.1; name = at; colon = c })))
 
-number_here_sound : (t : Token) (k : Kind) (ts : List Token) → t.kind ≡ k → Holds (number_here k ts) (λ r. Is (kinds.Number r.0) (t ∷ ts) r.1)
+number_here_sound : (t : Token) (k : Kind) (ts : List Token) → t.kind ≡ k
+    → Holds (number_here k ts) (λ r. Is (kinds.Number r.0) (t ∷ ts) r.1)
 number_here_sound t (kinds.Number n) ts e =
-    some_holds _ _ (record { place = t.place; start = t.start; len = t.len; is = ap (λ (k : Kind). token k t.place t.start t.len ∷ ts) e })
+    some_holds _ _ (record {
+      place = t.place;
+      start = t.start;
+      len = t.len;
+      is = ap (λ (k : Kind). token k t.place t.start t.len ∷ ts) e;
+    })
 number_here_sound t _ ts e = none_holds _
 
 pub number_sound : (ts : List Token) → Holds (number_at ts) (λ r. Is (kinds.Number r.0) ts r.1)
@@ -155,7 +176,8 @@ number_sound (t ∷ ts) = number_here_sound t t.kind ts refl
 maybe_name_sound : (text : Spelling) (ts : List Token) → Holds (maybe_name_at text ts) (λ r. ReadsName text r.0 ts r.1)
 unfolding maybe_name_at
 maybe_name_sound text ts =
-    chosen_holds (name_sound text ts) (λ none. some_holds _ _ (refl, λ n a at. let is : name_at text ts ≡ Some (n, a) = name_is text n ts a at in cc))
+    chosen_holds (name_sound text ts)
+    (λ none. some_holds _ _ (refl, λ n a at. let is : name_at text ts ≡ Some (n, a) = name_is text n ts a at in cc))
     (λ n at. some_holds _ _ at)
 
 module _ (text : Spelling) (sub : SubType) (d : ℕ) (h : IsSoundType text sub d) where
@@ -164,14 +186,16 @@ module _ (text : Spelling) (sub : SubType) (d : ℕ) (h : IsSoundType text sub d
   elem_sound ts =
       choose_holds (label_sound text ts)
       (bind_holds (h ts) (λ t g. some_holds _ _ (record { later = ts; label = refl; reads = g.reads; low = g.low })))
-      (λ n l. bind_holds (h n.1) (λ t g. some_holds _ _ (record { later = n.1; label = (l.later, l.name, l.colon); reads = g.reads; low = g.low })))
+      (λ n l. bind_holds (h n.1) (λ t g.
+      some_holds _ _ (record { later = n.1; label = (l.later, l.name, l.colon); reads = g.reads; low = g.low })))
 
   pub param_sound : (ts : List Token) → Holds (param_at text sub ts) (λ x. ReadsParam text d x.0 ts x.1)
   unfolding param_at
   param_sound ts = bind_holds (label_sound text ts) (λ n l. bind_holds (h n.1) (λ t g.
       some_holds _ _ (record { a = l.later; b = n.1; name = l.name; colon = l.colon; reads = g.reads; low = g.low })))
 
-  param_step_sound : (ts : List Token) → Holds (param_step text sub ts) (λ r. Holds r (λ x. ParamItem text d x.0 ts x.1))
+  param_step_sound : (ts : List Token)
+      → Holds (param_step text sub ts) (λ r. Holds r (λ x. ParamItem text d x.0 ts x.1))
   unfolding param_step
   param_step_sound ts = choose_holds (after_sign_sound signs.Comma ts) (none_holds _) (λ a c.
       some_holds _ _ (weaker (param_sound a) (λ x g. record { later = a; comma = c; item = g })))
@@ -180,16 +204,24 @@ module _ (text : Spelling) (sub : SubType) (d : ℕ) (h : IsSoundType text sub d
   param_item = record {
     sound = λ ts r e. (param_step_sound ts).holds r e;
     shorter =
-        λ x ts rest i. omega (arith, is_length i.comma, name_length i.item.name, is_length i.item.colon, type_shorter text x.1 i.item.b rest i.item.reads);
+        λ x ts rest i. omega (
+          arith,
+          is_length i.comma,
+          name_length i.item.name,
+          is_length i.item.colon,
+          type_shorter text x.1 i.item.b rest i.item.reads,
+        );
   }
 
   field_sound : (ts : List Token) → Holds (proto_field_at text sub ts) (λ x. ReadsField text d x.0 ts x.1)
   unfolding proto_field_at
   field_sound ts = bind_holds (param_sound ts)
-      (λ p g. bind_holds (after_sign_sound signs.At p.1) (λ a at. bind_holds (number_sound a) (λ k n. bind_holds (maybe_name_sound text k.1) (λ l m.
+      (λ p g. bind_holds (after_sign_sound signs.At p.1)
+      (λ a at. bind_holds (number_sound a) (λ k n. bind_holds (maybe_name_sound text k.1) (λ l m.
       some_holds _ _ (record { a = p.1; b = a; c = k.1; param = g; at = at; number = n; label = m })))))
 
-  field_step_sound : (ts : List Token) → Holds (proto_field_step text sub ts) (λ r. Holds r (λ x. FieldItem text d x.0 ts x.1))
+  field_step_sound : (ts : List Token)
+      → Holds (proto_field_step text sub ts) (λ r. Holds r (λ x. FieldItem text d x.0 ts x.1))
   unfolding proto_field_step
   field_step_sound ts = choose_holds (after_sign_sound signs.Comma ts) (none_holds _) (λ a c.
       some_holds _ _ (weaker (field_sound a) (λ x g. record { later = a; comma = c; item = g })))
@@ -210,24 +242,42 @@ module _ (text : Spelling) (sub : SubType) (d : ℕ) (h : IsSoundType text sub d
         );
   }
 
-  more_params_of : (ps : List (Ident × Typ)) (ts rest : List Token) → Many (ParamItem text d) ps ts rest → ReadsMoreParams text (params_of ps) ts rest
-      × (param_heights (params_of ps) ≤ d)
+  more_params_of : (ps : List (Ident × Typ)) (ts rest : List Token) → Many (ParamItem text d) ps ts rest
+      → ReadsMoreParams text (params_of ps) ts rest × (param_heights (params_of ps) ≤ d)
   unfolding Many ReadsType type_height
   more_params_of [] ts rest m = (m, omega arith)
   more_params_of (p ∷ ps) ts rest m =
       let i = m.1 in
-      let l = more_params_of ps m.0 rest m.2 in
-      ((i.later, i.item.a, i.item.b, m.0, i.comma, i.item.name, i.item.colon, i.item.reads, l.0), omega (arith, i.item.low, l.1))
+      let l = more_params_of ps m.0 rest m.2 in (
+        (i.later, i.item.a, i.item.b, m.0, i.comma, i.item.name, i.item.colon, i.item.reads, l.0),
+        omega (arith, i.item.low, l.1),
+      )
 
-  more_fields_of : (fs : List FieldForm) (ts rest : List Token) → Many (FieldItem text d) fs ts rest → ReadsMoreFields text (fields_of fs) ts rest
-      × (field_heights (fields_of fs) ≤ d)
+  more_fields_of : (fs : List FieldForm) (ts rest : List Token) → Many (FieldItem text d) fs ts rest
+      → ReadsMoreFields text (fields_of fs) ts rest × (field_heights (fields_of fs) ≤ d)
   unfolding Many ReadsType type_height
   more_fields_of [] ts rest m = (m, omega arith)
   more_fields_of (f ∷ fs) ts rest m =
       let i = m.1 in
       let p = i.item.param in
       let l = more_fields_of fs m.0 rest m.2 in (
-        (i.later, p.a, p.b, i.item.a, i.item.b, i.item.c, m.0, i.comma, p.name, p.colon, p.reads, i.item.at, i.item.number, i.item.label, l.0),
+        (
+          i.later,
+          p.a,
+          p.b,
+          i.item.a,
+          i.item.b,
+          i.item.c,
+          m.0,
+          i.comma,
+          p.name,
+          p.colon,
+          p.reads,
+          i.item.at,
+          i.item.number,
+          i.item.label,
+          l.0,
+        ),
         omega (arith, p.low, l.1),
       )
 
@@ -244,13 +294,16 @@ pub record ParsedFields (text : Spelling) (d : ℕ) (ts : List Token) (y : List 
 module _ (text : Spelling) (sub : SubType) (d : ℕ) (h : IsSoundType text sub d) where
   pub params_sound : (ts : List Token) → Holds (params_at text sub ts) (ParsedParams text d ts)
   unfolding params_at params_after ReadsType type_height
-  params_sound ts = bind_holds (param_sound text sub d h ts) (λ p g. bind_holds (all_sound (param_item text sub d h) p.1) (λ y m.
+  params_sound ts =
+      bind_holds (param_sound text sub d h ts) (λ p g. bind_holds (all_sound (param_item text sub d h) p.1) (λ y m.
       let l = more_params_of text sub d h y.0 p.1 y.1 m in
-      some_holds _ _ (record { reads = (g.a, g.b, p.1, g.name, g.colon, g.reads, l.0); low = omega (arith, g.low, l.1) })))
+      some_holds _ _
+      (record { reads = (g.a, g.b, p.1, g.name, g.colon, g.reads, l.0); low = omega (arith, g.low, l.1) })))
 
   fields_sound : (ts : List Token) → Holds (proto_fields_at text sub ts) (ParsedFields text d ts)
   unfolding proto_fields_at proto_fields_after ReadsType type_height
-  fields_sound ts = bind_holds (field_sound text sub d h ts) (λ f g. bind_holds (all_sound (field_item text sub d h) f.1) (λ y m.
+  fields_sound ts =
+      bind_holds (field_sound text sub d h ts) (λ f g. bind_holds (all_sound (field_item text sub d h) f.1) (λ y m.
       let l = more_fields_of text sub d h y.0 f.1 y.1 m in
       let p = g.param in
       some_holds _ _ (record {
@@ -270,31 +323,39 @@ module _ (text : Spelling) (sub : SubType) (d : ℕ) (h : IsSoundType text sub d
   unfolding map_type_at ReadsType type_height
   map_sound ts0 p ts at =
       bind_holds (after_sign_sound signs.OpenBracket ts)
-      (λ a o. bind_holds (elem_sound text sub d h a) (λ e ge. bind_holds (after_sign_sound signs.CloseBracket e.1) (λ b c.
+      (λ a o. bind_holds (elem_sound text sub d h a)
+      (λ e ge. bind_holds (after_sign_sound signs.CloseBracket e.1) (λ b c.
       bind_holds (after_word_sound words.Of b) (λ f w. bind_holds (h f) (λ t g.
-      some_holds _ _ (record { reads = (ts, a, ge.later, e.1, b, f, at, o, ge.label, ge.reads, c, w, g.reads); low = omega (arith, ge.low, g.low) }))))))
+      some_holds _ _ (record {
+        reads = (ts, a, ge.later, e.1, b, f, at, o, ge.label, ge.reads, c, w, g.reads);
+        low = omega (arith, ge.low, g.low);
+      }))))))
 
   tuple_sound : (ts0 : List Token) (p : Place) (ts : List Token) → At p (kinds.Sign signs.OpenBrace) ts0 ts
       → Holds (tuple_at text sub p ts) (ParsedType text (suc d) ts0)
   unfolding tuple_at ReadsType type_height
-  tuple_sound ts0 p ts at = bind_holds (params_sound ts) (λ y g. bind_holds (after_sign_sound signs.CloseBrace y.1) (λ r c.
+  tuple_sound ts0 p ts at =
+      bind_holds (params_sound ts) (λ y g. bind_holds (after_sign_sound signs.CloseBrace y.1) (λ r c.
       some_holds _ _ (record { reads = (ts, y.1, at, g.reads, c); low = omega (arith, g.low) })))
 
   proto_sound : (ts0 : List Token) (p : Place) (ts : List Token) → At p (kinds.Word words.Proto) ts0 ts
       → Holds (proto_at text sub p ts) (ParsedType text (suc d) ts0)
   unfolding proto_at ReadsType type_height
   proto_sound ts0 p ts at =
-      bind_holds (after_sign_sound signs.OpenBrace ts) (λ a o. bind_holds (fields_sound a) (λ y g. bind_holds (after_sign_sound signs.CloseBrace y.1) (λ r c.
+      bind_holds (after_sign_sound signs.OpenBrace ts)
+      (λ a o. bind_holds (fields_sound a) (λ y g. bind_holds (after_sign_sound signs.CloseBrace y.1) (λ r c.
       some_holds _ _ (record { reads = (ts, a, y.1, at, o, g.reads, c); low = omega (arith, g.low) }))))
 
-  type_here_sound : (t : Token) (ts : List Token) → Holds (type_here text sub t t.kind ts) (ParsedType text (suc d) (t ∷ ts))
+  type_here_sound : (t : Token) (ts : List Token)
+      → Holds (type_here text sub t t.kind ts) (ParsedType text (suc d) (t ∷ ts))
   unfolding ReadsType type_height
   type_here_sound t ts = go t.kind refl
     where
       at : (k : Kind) → t.kind ≡ k → At t.place k (t ∷ ts) ts
       at k e = record { start = t.start; len = t.len; is = ap (λ (k : Kind). token k t.place t.start t.len ∷ ts) e }
 
-      word : (w : Word) → t.kind ≡ kinds.Word w → Holds (type_worded text sub t.place w ts) (ParsedType text (suc d) (t ∷ ts))
+      word : (w : Word) → t.kind ≡ kinds.Word w
+          → Holds (type_worded text sub t.place w ts) (ParsedType text (suc d) (t ∷ ts))
       word words.Array e = array_sound (t ∷ ts) t.place ts (at _ e)
       word words.Map e = map_sound (t ∷ ts) t.place ts (at _ e)
       word words.Proto e = proto_sound (t ∷ ts) t.place ts (at _ e)
@@ -305,7 +366,8 @@ module _ (text : Spelling) (sub : SubType) (d : ℕ) (h : IsSoundType text sub d
       word words.Time e = some_holds _ _ (record { reads = at _ e; low = omega arith })
       word _ e = none_holds _
 
-      sign : (s : Sign) → t.kind ≡ kinds.Sign s → Holds (type_bracketed text sub t.place s ts) (ParsedType text (suc d) (t ∷ ts))
+      sign : (s : Sign) → t.kind ≡ kinds.Sign s
+          → Holds (type_bracketed text sub t.place s ts) (ParsedType text (suc d) (t ∷ ts))
       sign signs.OpenBrace e = tuple_sound (t ∷ ts) t.place ts (at _ e)
       sign _ e = none_holds _
 

@@ -10,7 +10,8 @@ use Rattle.sz_parse_expr.specs.ReadingTypes.{SubType, param_at, param_step, para
 use Rattle.sz_parse_expr.proofs.Steps.{choose_some, choose_none}
 
 module _ (text : Spelling) (sub : SubType) where
-  pub param_here : (ts after : List Token) → after_sign signs.Comma ts ≡ Some after → param_step text sub ts ≡ Some (param_at text sub after)
+  pub param_here : (ts after : List Token) → after_sign signs.Comma ts ≡ Some after
+      → param_step text sub ts ≡ Some (param_at text sub after)
   unfolding param_step
   param_here ts after c = choose_some _ _ _ _ _ c refl
 
@@ -22,11 +23,13 @@ module _ (text : Spelling) (sub : SubType) where
   unfolding param_step after_sign choose
   no_param_at_end = refl
 
-  pub params_start : (p : Ident × Typ) (ts : List Token) → with_items (p ∷ []) (all_at (param_step text sub) ts) ≡ params_after text sub p ts
+  pub params_start : (p : Ident × Typ) (ts : List Token)
+      → with_items (p ∷ []) (all_at (param_step text sub) ts) ≡ params_after text sub p ts
   unfolding with_items params_after
   params_start p ts = refl
 
-  pub field_here : (ts after : List Token) → after_sign signs.Comma ts ≡ Some after → proto_field_step text sub ts ≡ Some (proto_field_at text sub after)
+  pub field_here : (ts after : List Token) → after_sign signs.Comma ts ≡ Some after
+      → proto_field_step text sub ts ≡ Some (proto_field_at text sub after)
   unfolding proto_field_step
   field_here ts after c = choose_some _ _ _ _ _ c refl
 
@@ -38,6 +41,7 @@ module _ (text : Spelling) (sub : SubType) where
   unfolding proto_field_step after_sign choose
   no_field_at_end = refl
 
-  pub fields_start : (f : FieldForm) (ts : List Token) → with_items (f ∷ []) (all_at (proto_field_step text sub) ts) ≡ proto_fields_after text sub f ts
+  pub fields_start : (f : FieldForm) (ts : List Token)
+      → with_items (f ∷ []) (all_at (proto_field_step text sub) ts) ≡ proto_fields_after text sub f ts
   unfolding with_items proto_fields_after
   fields_start f ts = refl

@@ -62,22 +62,33 @@ module _ (text : Spelling) where
     pub Reads : Exp → List Token → List Token → Type 0
     Reads (literal p l) ts rest = AtLiteral text p l ts rest
     Reads (named n) ts rest = AtName text n ts rest
-    Reads (call n es) ts rest = (a b c : List Token) × AtName text n ts a × IsSign signs.OpenParen a b × ReadsArgs es b c × IsSign signs.CloseParen c rest
+    Reads (call n es) ts rest = (a b c : List Token) × AtName text n ts a × IsSign signs.OpenParen a b
+        × ReadsArgs es b c × IsSign signs.CloseParen c rest
     Reads (def p e) ts rest =
-        (a b c : List Token) × At p (kinds.Word words.Def) ts a × IsSign signs.OpenParen a b × Reads e b c × IsSign signs.CloseParen c rest
-    Reads (paren p e) ts rest = (a b : List Token) × At p (kinds.Sign signs.OpenParen) ts a × Reads e a b × IsSign signs.CloseParen b rest
+        (a b c : List Token) × At p (kinds.Word words.Def) ts a × IsSign signs.OpenParen a b × Reads e b c
+        × IsSign signs.CloseParen c rest
+    Reads (paren p e) ts rest = (a b : List Token) × At p (kinds.Sign signs.OpenParen) ts a × Reads e a b
+        × IsSign signs.CloseParen b rest
     Reads (convert p t e) ts rest =
-        (a b c : List Token) × Converts t × At p (kinds.Word (basic_word t)) ts a × IsSign signs.OpenParen a b × Reads e b c × IsSign signs.CloseParen c rest
-    Reads (list p es) ts rest = (a b : List Token) × At p (kinds.Sign signs.OpenBrace) ts a × ReadsArgs es a b × IsSign signs.CloseBrace b rest
-    Reads (mapping p ps) ts rest = (a b : List Token) × At p (kinds.Sign signs.OpenBrace) ts a × ReadsEntries ps a b × IsSign signs.CloseBrace b rest
+        (a b c : List Token) × Converts t × At p (kinds.Word (basic_word t)) ts a × IsSign signs.OpenParen a b
+        × Reads e b c × IsSign signs.CloseParen c rest
+    Reads (list p es) ts rest = (a b : List Token) × At p (kinds.Sign signs.OpenBrace) ts a × ReadsArgs es a b
+        × IsSign signs.CloseBrace b rest
+    Reads (mapping p ps) ts rest = (a b : List Token) × At p (kinds.Sign signs.OpenBrace) ts a × ReadsEntries ps a b
+        × IsSign signs.CloseBrace b rest
     Reads (index p e i) ts rest =
-        (a b c : List Token) × (p ≡ place_of e) × IsPostfix e × Reads e ts a × IsSign signs.OpenBracket a b × Reads i b c × IsSign signs.CloseBracket c rest
-    Reads (slice p e i j) ts rest = (a b c d f : List Token) × (p ≡ place_of e) × IsPostfix e × Reads e ts a × IsSign signs.OpenBracket a b
+        (a b c : List Token) × (p ≡ place_of e) × IsPostfix e × Reads e ts a × IsSign signs.OpenBracket a b
+        × Reads i b c × IsSign signs.CloseBracket c rest
+    Reads (slice p e i j) ts rest = (a b c d f : List Token) × (p ≡ place_of e) × IsPostfix e × Reads e ts a
+        × IsSign signs.OpenBracket a b
         × Reads i b c × IsSign signs.Colon c d × Reads j d f × IsSign signs.CloseBracket f rest
-    Reads (field p e n) ts rest = (a b : List Token) × (p ≡ place_of e) × IsPostfix e × Reads e ts a × IsSign signs.Dot a b × AtName text n b rest
-    Reads (unary p o e) ts rest = (a : List Token) × At p (kinds.Sign (unary_sign o)) ts a × (loose e ≤ 0) × Reads e a rest
+    Reads (field p e n) ts rest = (a b : List Token) × (p ≡ place_of e) × IsPostfix e × Reads e ts a
+        × IsSign signs.Dot a b × AtName text n b rest
+    Reads (unary p o e) ts rest = (a : List Token) × At p (kinds.Sign (unary_sign o)) ts a × (loose e ≤ 0)
+        × Reads e a rest
     Reads (binary p o l r) ts rest =
-        (a b : List Token) × (p ≡ place_of l) × (loose l ≤ left_loose o) × Reads l ts a × IsSign (sign_of o) a b × (loose r < loose_of o) × Reads r b rest
+        (a b : List Token) × (p ≡ place_of l) × (loose l ≤ left_loose o) × Reads l ts a × IsSign (sign_of o) a b
+        × (loose r < loose_of o) × Reads r b rest
 
     -- nothing, or expressions with commas between them
     pub ReadsArgs : Exps → List Token → List Token → Type 0
@@ -92,10 +103,12 @@ module _ (text : Spelling) where
     -- a colon, or pairs with commas between them
     pub ReadsEntries : Pairs → List Token → List Token → Type 0
     ReadsEntries no_pairs ts rest = IsSign signs.Colon ts rest
-    ReadsEntries (pair k v ps) ts rest = (a b c : List Token) × Reads k ts a × IsSign signs.Colon a b × Reads v b c × ReadsPairs ps c rest
+    ReadsEntries (pair k v ps) ts rest = (a b c : List Token) × Reads k ts a × IsSign signs.Colon a b × Reads v b c
+        × ReadsPairs ps c rest
 
     -- pairs with a comma before each
     pub ReadsPairs : Pairs → List Token → List Token → Type 0
     ReadsPairs no_pairs ts rest = ts ≡ rest
     ReadsPairs (pair k v ps) ts rest =
-        (a b c d : List Token) × IsSign signs.Comma ts a × Reads k a b × IsSign signs.Colon b c × Reads v c d × ReadsPairs ps d rest
+        (a b c d : List Token) × IsSign signs.Comma ts a × Reads k a b × IsSign signs.Colon b c × Reads v c d
+        × ReadsPairs ps d rest

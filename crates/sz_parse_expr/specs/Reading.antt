@@ -84,10 +84,12 @@ decoded q l =
     if bytes_eq (take (length (opening q)) l) (opening q)
     then whole_value (length (drop (length (opening q)) l)) (body_at q 0 (drop (length (opening q)) l)) else None
 
--- items one after the other, in so many turns at most; step gives nothing where no further item begins, and else what reading it gives
+-- items one after the other, in so many turns at most; step gives nothing where no further item begins,
+-- and else what reading it gives
 unfoldable pub many_at : {A : Type 0} → (List Token → Option (Read A)) → ℕ → List Token → Read (List A)
 many_at step zero ts = Some ([], ts)
-many_at step (suc k) ts = choose (step ts) (Some ([], ts)) (λ r. r >>= λ x. many_at step k x.1 >>= λ y. Some (x.0 ∷ y.0, y.1))
+many_at step (suc k) ts =
+    choose (step ts) (Some ([], ts)) (λ r. r >>= λ x. many_at step k x.1 >>= λ y. Some (x.0 ∷ y.0, y.1))
 
 -- as many items as there are: each takes a token at least
 unfoldable pub all_at : {A : Type 0} → (List Token → Option (Read A)) → List Token → Read (List A)

@@ -1,4 +1,5 @@
--- Reading expressions. Each rule is over a reader of its parts, which reads trees of at most some height, each no looser than its argument.
+-- Reading expressions. Each rule is over a reader of its parts, which reads trees of at most some height,
+-- each no looser than its argument.
 use Rattle.std.specs.Prelude.{ℕ, zero, suc, List, [], ◌∷◌, Option, Some, None, Bool, true, false, nat_le, ◌==◌, if◌then◌else◌}
 use Rattle.sz_types.specs.declared.place.Place.{Place}
 use Rattle.sz_lex.specs.declared.token.Token.{Token}
@@ -102,7 +103,8 @@ pairs_after sub p ts = all_at (pair_step sub) ts >>= λ y. Some (p ∷ y.0, y.1)
 
 -- the arguments of a call, up to the closing parenthesis
 unfoldable pub args_at : Sub → List Token → Read (List Exp)
-args_at sub ts = choose (after_sign signs.CloseParen ts) (sub 5 ts >>= λ x. items_after sub x.0 x.1) (λ _. Some ([], ts))
+args_at sub ts =
+    choose (after_sign signs.CloseParen ts) (sub 5 ts >>= λ x. items_after sub x.0 x.1) (λ _. Some ([], ts))
 
 -- the same with the closing parenthesis
 unfoldable pub call_at : Sub → List Token → Read Exps
@@ -110,7 +112,8 @@ call_at sub ts = args_at sub ts >>= λ y. after_sign signs.CloseParen y.1 >>= λ
 
 -- what a name begins; a call is at least 2 high
 unfoldable pub named_at : Sub → ℕ → Ident → List Token → Read Exp
-named_at sub d n ts = choose (after_sign signs.OpenParen ts) (Some (named n, ts)) (λ a. guard (nat_le 1 d) (call_at sub a >>= λ y. Some (call n y.0, y.1)))
+named_at sub d n ts = choose (after_sign signs.OpenParen ts) (Some (named n, ts))
+    (λ a. guard (nat_le 1 d) (call_at sub a >>= λ y. Some (call n y.0, y.1)))
 
 -- an expression and a closing parenthesis
 unfoldable pub closed_at : Sub → List Token → Read Exp
@@ -131,10 +134,12 @@ convert_at sub p b ts = condition_at sub ts >>= λ x. Some (convert p b x.0, x.1
 
 -- the rest of a list, and of a map
 unfoldable pub list_at : Sub → Place → Exp → List Token → Read Exp
-list_at sub p e ts = items_after sub e ts >>= λ y. after_sign signs.CloseBrace y.1 >>= λ r. Some (list p (exps_of y.0), r)
+list_at sub p e ts = items_after sub e ts >>= λ y. after_sign signs.CloseBrace y.1
+    >>= λ r. Some (list p (exps_of y.0), r)
 
 unfoldable pub map_at : Sub → Place → Exp × Exp → List Token → Read Exp
-map_at sub p kv ts = pairs_after sub kv ts >>= λ y. after_sign signs.CloseBrace y.1 >>= λ r. Some (mapping p (pairs_of y.0), r)
+map_at sub p kv ts = pairs_after sub kv ts >>= λ y. after_sign signs.CloseBrace y.1
+    >>= λ r. Some (mapping p (pairs_of y.0), r)
 
 -- a list or a map, after its opening brace
 unfoldable pub composite_at : Sub → Place → List Token → Read Exp
@@ -186,16 +191,19 @@ field_at text e ts = name_at text ts >>= λ n. Some (field (place_of e) e n.0, n
 -- an index, a slice or a field of e; nothing where none begins
 unfoldable pub part_step : Spelling → Sub → Exp → List Token → Option (Read Exp)
 part_step text sub e ts =
-    choose (after_sign signs.OpenBracket ts) (choose (after_sign signs.Dot ts) None (λ a. Some (field_at text e a))) (λ a. Some (bracket_at sub e a))
+    choose (after_sign signs.OpenBracket ts) (choose (after_sign signs.Dot ts) None (λ a. Some (field_at text e a)))
+    (λ a. Some (bracket_at sub e a))
 
 -- an index, a slice or a field of e if one stands there, and whether one does
 unfoldable pub part_at : Spelling → Sub → ℕ → Exp → List Token → Read (Exp × Bool)
-part_at text sub d e ts = choose (part_step text sub e ts) (Some ((e, false), ts)) (λ r. guard (nat_le (height e) d) (r >>= λ x. Some ((x.0, true), x.1)))
+part_at text sub d e ts = choose (part_step text sub e ts) (Some ((e, false), ts))
+    (λ r. guard (nat_le (height e) d) (r >>= λ x. Some ((x.0, true), x.1)))
 
 -- what stands after e, in so many turns at most
 unfoldable pub tail_at : Spelling → Sub → ℕ → ℕ → Exp → List Token → Read Exp
 tail_at text sub d zero e ts = Some (e, ts)
-tail_at text sub d (suc k) e ts = choose (part_step text sub e ts) (Some (e, ts)) (λ r. guard (nat_le (height e) d) (r >>= λ x. tail_at text sub d k x.0 x.1))
+tail_at text sub d (suc k) e ts = choose (part_step text sub e ts) (Some (e, ts))
+    (λ r. guard (nat_le (height e) d) (r >>= λ x. tail_at text sub d k x.0 x.1))
 
 unfoldable pub unary_at : Sub → Place → UnaryOp → List Token → Read Exp
 unary_at sub p o ts = sub 0 ts >>= λ x. Some (unary p o x.0, x.1)
@@ -206,7 +214,8 @@ postfix_at text sub d (t ∷ ts) = primary_here text sub d t t.kind ts >>= λ x.
 
 unfoldable pub prefix_at : Spelling → Sub → ℕ → List Token → Read Exp
 prefix_at text sub d [] = None
-prefix_at text sub d (t ∷ ts) = choose (unary_of t.kind) (postfix_at text sub d (t ∷ ts)) (λ o. unary_at sub t.place o ts)
+prefix_at text sub d (t ∷ ts) =
+    choose (unary_of t.kind) (postfix_at text sub d (t ∷ ts)) (λ o. unary_at sub t.place o ts)
 
 -- the operators of one level after e, in so many turns at most
 unfoldable pub chain_at : Sub → ℕ → ℕ → ℕ → Exp → List Token → Read Exp

@@ -1,4 +1,5 @@
--- Reading what stands after the first parts of an expression: the same steps as in the reader of the whole, from the middle on.
+-- Reading what stands after the first parts of an expression: the same steps as in the reader of
+-- the whole, from the middle on.
 use Rattle.std.specs.Prelude.{List, Some}
 use Rattle.sz_lex.specs.declared.token.Token.{Token}
 use Rattle.sz_lex.specs.declared.sign.Sign.TheVariants as signs

@@ -78,15 +78,17 @@ array_at sub p ts = after_word words.Of ts >>= λ a. sub a >>= λ t. Some (array
 
 unfoldable pub map_type_at : Spelling → SubType → Place → List Token → Read Typ
 map_type_at text sub p ts =
-    after_sign signs.OpenBracket ts >>= λ a. elem_at text sub a >>= λ e. after_sign signs.CloseBracket e.1 >>= λ b. after_word words.Of b >>= λ c.
-    sub c >>= λ t. Some (map_type p e.0.name e.0.of t.0, t.1)
+    after_sign signs.OpenBracket ts >>= λ a. elem_at text sub a >>= λ e. after_sign signs.CloseBracket e.1
+    >>= λ b. after_word words.Of b >>= λ c. sub c >>= λ t. Some (map_type p e.0.name e.0.of t.0, t.1)
 
 unfoldable pub tuple_at : Spelling → SubType → Place → List Token → Read Typ
-tuple_at text sub p ts = params_at text sub ts >>= λ y. after_sign signs.CloseBrace y.1 >>= λ r. Some (tuple p (params_of y.0), r)
+tuple_at text sub p ts = params_at text sub ts >>= λ y. after_sign signs.CloseBrace y.1
+    >>= λ r. Some (tuple p (params_of y.0), r)
 
 unfoldable pub proto_at : Spelling → SubType → Place → List Token → Read Typ
 proto_at text sub p ts =
-    after_sign signs.OpenBrace ts >>= λ a. proto_fields_at text sub a >>= λ y. after_sign signs.CloseBrace y.1 >>= λ r. Some (proto p (fields_of y.0), r)
+    after_sign signs.OpenBrace ts >>= λ a. proto_fields_at text sub a >>= λ y. after_sign signs.CloseBrace y.1
+    >>= λ r. Some (proto p (fields_of y.0), r)
 
 -- the basic type that a word names
 abbrev pub basic_of : Word → Option BasicType

@@ -26,35 +26,44 @@ module _ (text : Spelling) where
     pub ReadsType : Typ → List Token → List Token → Type 0
     ReadsType (basic p b) ts rest = At p (kinds.Word (basic_word b)) ts rest
     ReadsType (type_name n) ts rest = AtName text n ts rest
-    ReadsType (array p t) ts rest = (a b : List Token) × At p (kinds.Word words.Array) ts a × IsWord words.Of a b × ReadsType t b rest
-    ReadsType (map_type p n k v) ts rest = (a b c d f g : List Token) × At p (kinds.Word words.Map) ts a × IsSign signs.OpenBracket a b
-        × ReadsLabel n b c × ReadsType k c d × IsSign signs.CloseBracket d f × IsWord words.Of f g × ReadsType v g rest
-    ReadsType (tuple p ps) ts rest = (a b : List Token) × At p (kinds.Sign signs.OpenBrace) ts a × ReadsParams ps a b × IsSign signs.CloseBrace b rest
+    ReadsType (array p t) ts rest = (a b : List Token) × At p (kinds.Word words.Array) ts a × IsWord words.Of a b
+        × ReadsType t b rest
+    ReadsType (map_type p n k v) ts rest = (a b c d f g : List Token) × At p (kinds.Word words.Map) ts a
+        × IsSign signs.OpenBracket a b × ReadsLabel n b c × ReadsType k c d × IsSign signs.CloseBracket d f
+        × IsWord words.Of f g × ReadsType v g rest
+    ReadsType (tuple p ps) ts rest = (a b : List Token) × At p (kinds.Sign signs.OpenBrace) ts a × ReadsParams ps a b
+        × IsSign signs.CloseBrace b rest
     ReadsType (proto p fs) ts rest =
-        (a b c : List Token) × At p (kinds.Word words.Proto) ts a × IsSign signs.OpenBrace a b × ReadsFields fs b c × IsSign signs.CloseBrace c rest
+        (a b c : List Token) × At p (kinds.Word words.Proto) ts a × IsSign signs.OpenBrace a b × ReadsFields fs b c
+        × IsSign signs.CloseBrace c rest
 
     -- one or more names with their types, with commas between them
     pub ReadsParams : Params → List Token → List Token → Type 0
     ReadsParams no_params ts rest = ⊥
-    ReadsParams (param n t ps) ts rest = (a b c : List Token) × AtName text n ts a × IsSign signs.Colon a b × ReadsType t b c × ReadsMoreParams ps c rest
+    ReadsParams (param n t ps) ts rest = (a b c : List Token) × AtName text n ts a × IsSign signs.Colon a b
+        × ReadsType t b c × ReadsMoreParams ps c rest
 
     -- the same with a comma before each
     pub ReadsMoreParams : Params → List Token → List Token → Type 0
     ReadsMoreParams no_params ts rest = ts ≡ rest
     ReadsMoreParams (param n t ps) ts rest =
-        (a b c d : List Token) × IsSign signs.Comma ts a × AtName text n a b × IsSign signs.Colon b c × ReadsType t c d × ReadsMoreParams ps d rest
+        (a b c d : List Token) × IsSign signs.Comma ts a × AtName text n a b × IsSign signs.Colon b c
+        × ReadsType t c d × ReadsMoreParams ps d rest
 
     -- one or more fields of a message, with commas between them
     pub ReadsFields : Fields → List Token → List Token → Type 0
     ReadsFields no_fields ts rest = ⊥
-    ReadsFields (proto_field n t k l fs) ts rest = (a b c d f g : List Token) × AtName text n ts a × IsSign signs.Colon a b × ReadsType t b c
+    ReadsFields (proto_field n t k l fs) ts rest =
+        (a b c d f g : List Token) × AtName text n ts a × IsSign signs.Colon a b × ReadsType t b c
         × IsSign signs.At c d × Is (kinds.Number k) d f × ReadsName l f g × ReadsMoreFields fs g rest
 
     -- the same with a comma before each
     pub ReadsMoreFields : Fields → List Token → List Token → Type 0
     ReadsMoreFields no_fields ts rest = ts ≡ rest
-    ReadsMoreFields (proto_field n t k l fs) ts rest = (z a b c d f g : List Token) × IsSign signs.Comma ts z × AtName text n z a
-        × IsSign signs.Colon a b × ReadsType t b c × IsSign signs.At c d × Is (kinds.Number k) d f × ReadsName l f g × ReadsMoreFields fs g rest
+    ReadsMoreFields (proto_field n t k l fs) ts rest =
+        (z a b c d f g : List Token) × IsSign signs.Comma ts z × AtName text n z a
+        × IsSign signs.Colon a b × ReadsType t b c × IsSign signs.At c d × Is (kinds.Number k) d f × ReadsName l f g
+        × ReadsMoreFields fs g rest
 
   -- a type, with a name and a colon before it or without
   unfoldable pub ReadsElem : ElemForm → List Token → List Token → Type 0

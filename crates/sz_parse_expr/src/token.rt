@@ -5,6 +5,7 @@ ghost use Rattle.sz_parse_expr.specs.Reading.{after_sign, after_word, utf8_in, i
 ghost use Rattle.sz_parse_expr.specs.Outcome.{Gives, Sees};
 
 use crate::failed::Failed;
+use crate::reader::Reader;
 use std::alloc::Global;
 use sz_lex::{Kind, Sign, Token, Word};
 use sz_tree::Name;
@@ -87,18 +88,14 @@ pub fn ident(alloc: Global, text: &[u8], token: &Token) -> Result<Name, Failed>
 
 /// A name, and what follows it.
 #[tactic(auto, unfolding(crate::specs::Reading::name_at))]
-pub fn name<'t>(
-    alloc: Global,
-    text: &[u8],
-    tokens: &'t [Token],
-) -> Result<(Name, &'t [Token]), Failed>
-    ensures value { Gives (λ x. (x.0, x.1.now)) result (name_at (utf8_in text.now) tokens.now) }
+pub fn name(reader: Reader<'_>) -> Result<(Name, &[Token]), Failed>
+    ensures value { Gives (λ x. (x.0, x.1.now)) result (name_at (utf8_in reader.entry.text.now) reader.entry.tokens.now) }
 {
-    let [token, rest @ ..] = tokens else {
+    let [token, rest @ ..] = reader.tokens else {
         return Err(Failed::Syntax);
     };
     match token.kind {
-        Kind::Name => Ok((ident(alloc, text, token)?, rest)),
+        Kind::Name => Ok((ident(reader.alloc, reader.text, token)?, rest)),
         _ => Err(Failed::Syntax),
     }
 }

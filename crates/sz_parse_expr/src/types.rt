@@ -7,7 +7,7 @@ ghost use Rattle.sz_parse_expr.specs.ReadingTypes.{number_at, label_at, maybe_na
 ghost use Rattle.sz_parse_expr.specs.Outcome.{Gives};
 
 use crate::failed::Failed;
-use crate::limit::Depth;
+use crate::reader::Reader;
 use crate::token::{expect, expect_word, ident, name, skip};
 use std::alloc::Global;
 use sz_lex::{Kind, Sign, Token, Word};
@@ -30,30 +30,22 @@ pub fn number(tokens: &[Token]) -> Result<(i64, &[Token]), Failed>
 
 /// A name with a colon after it.
 #[tactic(auto, unfolding(crate::specs::ReadingTypes::label_at, crate::specs::Reading::bind))]
-pub fn label<'t>(
-    alloc: Global,
-    text: &[u8],
-    tokens: &'t [Token],
-) -> Result<(Name, &'t [Token]), Failed>
-    ensures value { Gives (λ x. (x.0, x.1.now)) result (label_at (utf8_in text.now) tokens.now) }
+pub fn label(reader: Reader<'_>) -> Result<(Name, &[Token]), Failed>
+    ensures value { Gives (λ x. (x.0, x.1.now)) result (label_at (utf8_in reader.entry.text.now) reader.entry.tokens.now) }
 {
-    let (name, rest) = name(alloc, text, tokens)?;
+    let (name, rest) = name(reader)?;
     let rest = expect(Sign::Colon, rest)?;
     Ok((name, rest))
 }
 
 // A name, if there is one.
 #[tactic(auto, unfolding(crate::specs::ReadingTypes::maybe_name_at, crate::specs::Reading::choose))]
-fn maybe_name<'t>(
-    alloc: Global,
-    text: &[u8],
-    tokens: &'t [Token],
-) -> Result<(Option<Name>, &'t [Token]), Failed>
-    ensures value { Gives (λ x. (x.0, x.1.now)) result (maybe_name_at (utf8_in text.now) tokens.now) }
+fn maybe_name(reader: Reader<'_>) -> Result<(Option<Name>, &[Token]), Failed>
+    ensures value { Gives (λ x. (x.0, x.1.now)) result (maybe_name_at (utf8_in reader.entry.text.now) reader.entry.tokens.now) }
 {
-    match name(alloc, text, tokens) {
+    match name(reader) {
         Ok((name, rest)) => Ok((Some(name), rest)),
-        Err(Failed::Syntax) => Ok((None, tokens)),
+        Err(Failed::Syntax) => Ok((None, reader.tokens)),
         Err(Failed::Memory) => Err(Failed::Memory),
     }
 }
@@ -75,60 +67,48 @@ fn basic_of(word: Word) -> Option<BasicType>
 /// A type of at most this height, and what follows it.
 #[cycle(types)]
 #[tactic(auto, unfolding(crate::specs::ReadingTypes::type_at))]
-pub fn type_tree<'t>(
-    alloc: Global,
-    text: &[u8],
-    depth: Depth,
-    tokens: &'t [Token],
-) -> Result<(TypeTree, &'t [Token]), Failed>
-    ensures read { Gives (λ x. (type_of x.0, x.1.now)) result (type_at (utf8_in text.now) depth.levels tokens.now) }
+pub fn type_tree(reader: Reader<'_>) -> Result<(TypeTree, &[Token]), Failed>
+    ensures read { Gives (λ x. (type_of x.0, x.1.now)) result (type_at (utf8_in reader.entry.text.now) reader.entry.depth.levels reader.entry.tokens.now) }
 {
-    let Some(inner) = depth.deeper() else {
+    let Some(depth) = reader.depth.deeper() else {
         return Err(Failed::Syntax);
     };
-    step(alloc, text, inner, tokens)
+    step(Reader { depth, ..reader })
 }
 
 // In what follows, the parts of a type have at most the height `inner`.
 #[cycle(types)]
 #[tactic(auto, unfolding(crate::specs::ReadingTypes::type_step))]
-fn step<'t>(
-    alloc: Global,
-    text: &[u8],
-    inner: Depth,
-    tokens: &'t [Token],
-) -> Result<(TypeTree, &'t [Token]), Failed>
-    ensures read { Gives (λ x. (type_of x.0, x.1.now)) result (type_step (utf8_in text.now) (type_at (utf8_in text.now) inner.levels) tokens.now) }
+fn step(reader: Reader<'_>) -> Result<(TypeTree, &[Token]), Failed>
+    ensures read { Gives (λ x. (type_of x.0, x.1.now)) result (type_step (utf8_in reader.entry.text.now)
+        (type_at (utf8_in reader.entry.text.now) reader.entry.depth.levels) reader.entry.tokens.now) }
 {
-    let [token, rest @ ..] = tokens else {
+    let [token, rest @ ..] = reader.tokens else {
         return Err(Failed::Syntax);
     };
     match token.kind {
-        Kind::Name => Ok((TypeTree::Named(ident(alloc, text, token)?), rest)),
-        Kind::Word(word) => worded(alloc, text, inner, token.place, word, rest),
-        Kind::Sign(Sign::OpenBrace) => tuple(alloc, text, inner, token.place, rest),
+        Kind::Name => Ok((
+            TypeTree::Named(ident(reader.alloc, reader.text, token)?),
+            rest,
+        )),
+        Kind::Word(word) => worded(reader.at(rest), token.place, word),
+        Kind::Sign(Sign::OpenBrace) => tuple(reader.at(rest), token.place),
         _ => Err(Failed::Syntax),
     }
 }
 
 // What a word begins.
 #[cycle(types)]
-fn worded<'t>(
-    alloc: Global,
-    text: &[u8],
-    inner: Depth,
-    place: Place,
-    word: Word,
-    tokens: &'t [Token],
-) -> Result<(TypeTree, &'t [Token]), Failed>
-    ensures read { Gives (λ x. (type_of x.0, x.1.now)) result (type_worded (utf8_in text.now) (type_at (utf8_in text.now) inner.levels) place word tokens.now) }
+fn worded(reader: Reader<'_>, place: Place, word: Word) -> Result<(TypeTree, &[Token]), Failed>
+    ensures read { Gives (λ x. (type_of x.0, x.1.now)) result (type_worded (utf8_in reader.entry.text.now)
+        (type_at (utf8_in reader.entry.text.now) reader.entry.depth.levels) place word reader.entry.tokens.now) }
 {
     match word {
-        Word::Array => array(alloc, text, inner, place, tokens),
-        Word::Map => map(alloc, text, inner, place, tokens),
-        Word::Proto => proto(alloc, text, inner, place, tokens),
+        Word::Array => array(reader, place),
+        Word::Map => map(reader, place),
+        Word::Proto => proto(reader, place),
         _ => match basic_of(word) {
-            Some(basic) => Ok((TypeTree::Basic(place, basic), tokens)),
+            Some(basic) => Ok((TypeTree::Basic(place, basic), reader.tokens)),
             None => Err(Failed::Syntax),
         },
     }
@@ -136,18 +116,13 @@ fn worded<'t>(
 
 #[cycle(types)]
 #[tactic(auto, unfolding(crate::specs::ReadingTypes::array_at, crate::specs::Reading::bind))]
-fn array<'t>(
-    alloc: Global,
-    text: &[u8],
-    inner: Depth,
-    place: Place,
-    tokens: &'t [Token],
-) -> Result<(TypeTree, &'t [Token]), Failed>
-    ensures read { Gives (λ x. (type_of x.0, x.1.now)) result (array_at (type_at (utf8_in text.now) inner.levels) place tokens.now) }
+fn array(reader: Reader<'_>, place: Place) -> Result<(TypeTree, &[Token]), Failed>
+    ensures read { Gives (λ x. (type_of x.0, x.1.now)) result
+        (array_at (type_at (utf8_in reader.entry.text.now) reader.entry.depth.levels) place reader.entry.tokens.now) }
 {
-    let rest = expect_word(Word::Of, tokens)?;
-    let (of, rest) = type_tree(alloc, text, inner, rest)?;
-    Ok((TypeTree::Array(place, Box::new(alloc, of)?), rest))
+    let rest = expect_word(Word::Of, reader.tokens)?;
+    let (of, rest) = type_tree(reader.at(rest))?;
+    Ok((TypeTree::Array(place, Box::new(reader.alloc, of)?), rest))
 }
 
 // A map of these types.
@@ -167,42 +142,33 @@ fn mapped(
 
 #[cycle(types)]
 #[tactic(auto, unfolding(crate::specs::ReadingTypes::map_type_at, crate::specs::Reading::bind))]
-fn map<'t>(
-    alloc: Global,
-    text: &[u8],
-    inner: Depth,
-    place: Place,
-    tokens: &'t [Token],
-) -> Result<(TypeTree, &'t [Token]), Failed>
-    ensures read { Gives (λ x. (type_of x.0, x.1.now)) result (map_type_at (utf8_in text.now) (type_at (utf8_in text.now) inner.levels) place tokens.now) }
+fn map(reader: Reader<'_>, place: Place) -> Result<(TypeTree, &[Token]), Failed>
+    ensures read { Gives (λ x. (type_of x.0, x.1.now)) result (map_type_at (utf8_in reader.entry.text.now)
+        (type_at (utf8_in reader.entry.text.now) reader.entry.depth.levels) place reader.entry.tokens.now) }
 {
-    let rest = expect(Sign::OpenBracket, tokens)?;
-    let (Elem { name, of }, rest) = elem(alloc, text, inner, rest)?;
+    let rest = expect(Sign::OpenBracket, reader.tokens)?;
+    let (Elem { name, of }, rest) = elem(reader.at(rest))?;
     let rest = expect(Sign::CloseBracket, rest)?;
     let rest = expect_word(Word::Of, rest)?;
-    let (value, rest) = type_tree(alloc, text, inner, rest)?;
-    Ok((mapped(alloc, place, name, of, value)?, rest))
+    let (value, rest) = type_tree(reader.at(rest))?;
+    Ok((mapped(reader.alloc, place, name, of, value)?, rest))
 }
 
 /// A type, with a name and a colon before it or without.
 #[cycle(types)]
 #[tactic(auto, unfolding(crate::specs::ReadingTypes::elem_at, crate::specs::Reading::bind, crate::specs::Reading::choose))]
-pub fn elem<'t>(
-    alloc: Global,
-    text: &[u8],
-    inner: Depth,
-    tokens: &'t [Token],
-) -> Result<(Elem, &'t [Token]), Failed>
-    ensures read { Gives (λ x. (elem_of x.0, x.1.now)) result (elem_at (utf8_in text.now) (type_at (utf8_in text.now) inner.levels) tokens.now) }
+pub fn elem(reader: Reader<'_>) -> Result<(Elem, &[Token]), Failed>
+    ensures read { Gives (λ x. (elem_of x.0, x.1.now)) result (elem_at (utf8_in reader.entry.text.now)
+        (type_at (utf8_in reader.entry.text.now) reader.entry.depth.levels) reader.entry.tokens.now) }
 {
-    match label(alloc, text, tokens) {
+    match label(reader) {
         Ok((name, rest)) => {
-            let (of, rest) = type_tree(alloc, text, inner, rest)?;
+            let (of, rest) = type_tree(reader.at(rest))?;
             let name = Some(name);
             Ok((Elem { name, of }, rest))
         }
         Err(Failed::Syntax) => {
-            let (of, rest) = type_tree(alloc, text, inner, tokens)?;
+            let (of, rest) = type_tree(reader)?;
             Ok((Elem { name: None, of }, rest))
         }
         Err(Failed::Memory) => Err(Failed::Memory),
@@ -211,33 +177,23 @@ pub fn elem<'t>(
 
 #[cycle(types)]
 #[tactic(auto, unfolding(crate::specs::ReadingTypes::tuple_at, crate::specs::Reading::bind))]
-fn tuple<'t>(
-    alloc: Global,
-    text: &[u8],
-    inner: Depth,
-    place: Place,
-    tokens: &'t [Token],
-) -> Result<(TypeTree, &'t [Token]), Failed>
-    ensures read { Gives (λ x. (type_of x.0, x.1.now)) result (tuple_at (utf8_in text.now) (type_at (utf8_in text.now) inner.levels) place tokens.now) }
+fn tuple(reader: Reader<'_>, place: Place) -> Result<(TypeTree, &[Token]), Failed>
+    ensures read { Gives (λ x. (type_of x.0, x.1.now)) result (tuple_at (utf8_in reader.entry.text.now)
+        (type_at (utf8_in reader.entry.text.now) reader.entry.depth.levels) place reader.entry.tokens.now) }
 {
-    let (parts, rest) = params(alloc, text, inner, tokens)?;
+    let (parts, rest) = params(reader)?;
     let rest = expect(Sign::CloseBrace, rest)?;
     Ok((TypeTree::tuple(place, parts), rest))
 }
 
 #[cycle(types)]
 #[tactic(auto, unfolding(crate::specs::ReadingTypes::proto_at, crate::specs::Reading::bind))]
-fn proto<'t>(
-    alloc: Global,
-    text: &[u8],
-    inner: Depth,
-    place: Place,
-    tokens: &'t [Token],
-) -> Result<(TypeTree, &'t [Token]), Failed>
-    ensures read { Gives (λ x. (type_of x.0, x.1.now)) result (proto_at (utf8_in text.now) (type_at (utf8_in text.now) inner.levels) place tokens.now) }
+fn proto(reader: Reader<'_>, place: Place) -> Result<(TypeTree, &[Token]), Failed>
+    ensures read { Gives (λ x. (type_of x.0, x.1.now)) result (proto_at (utf8_in reader.entry.text.now)
+        (type_at (utf8_in reader.entry.text.now) reader.entry.depth.levels) place reader.entry.tokens.now) }
 {
-    let rest = expect(Sign::OpenBrace, tokens)?;
-    let (fields, rest) = fields(alloc, text, inner, rest)?;
+    let rest = expect(Sign::OpenBrace, reader.tokens)?;
+    let (fields, rest) = fields(reader.at(rest))?;
     let rest = expect(Sign::CloseBrace, rest)?;
     Ok((TypeTree::proto(place, fields), rest))
 }
@@ -245,50 +201,37 @@ fn proto<'t>(
 // A name and its type.
 #[cycle(types)]
 #[tactic(auto, unfolding(crate::specs::ReadingTypes::param_at, crate::specs::Reading::bind))]
-fn param<'t>(
-    alloc: Global,
-    text: &[u8],
-    inner: Depth,
-    tokens: &'t [Token],
-) -> Result<(Param, &'t [Token]), Failed>
-    ensures read { Gives (λ x. (param_of x.0, x.1.now)) result (param_at (utf8_in text.now) (type_at (utf8_in text.now) inner.levels) tokens.now) }
+fn param(reader: Reader<'_>) -> Result<(Param, &[Token]), Failed>
+    ensures read { Gives (λ x. (param_of x.0, x.1.now)) result (param_at (utf8_in reader.entry.text.now)
+        (type_at (utf8_in reader.entry.text.now) reader.entry.depth.levels) reader.entry.tokens.now) }
 {
-    let (name, rest) = label(alloc, text, tokens)?;
-    let (of, rest) = type_tree(alloc, text, inner, rest)?;
+    let (name, rest) = label(reader)?;
+    let (of, rest) = type_tree(reader.at(rest))?;
     Ok((Param { name, of }, rest))
 }
 
 /// Names with their types, with commas between them.
 #[cycle(types)]
 #[tactic(auto, unfolding(crate::specs::ReadingTypes::params_at, crate::specs::Reading::bind))]
-pub fn params<'t>(
-    alloc: Global,
-    text: &[u8],
-    inner: Depth,
-    tokens: &'t [Token],
-) -> Result<(Vec<Param>, &'t [Token]), Failed>
-    ensures read { Gives (λ x. (each param_of x.0.items, x.1.now)) result (params_at (utf8_in text.now) (type_at (utf8_in text.now) inner.levels) tokens.now) }
+pub fn params(reader: Reader<'_>) -> Result<(Vec<Param>, &[Token]), Failed>
+    ensures read { Gives (λ x. (each param_of x.0.items, x.1.now)) result (params_at (utf8_in reader.entry.text.now)
+        (type_at (utf8_in reader.entry.text.now) reader.entry.depth.levels) reader.entry.tokens.now) }
 {
-    let (first, rest) = param(alloc, text, inner, tokens)?;
-    params_after(alloc, text, inner, first, rest)
+    let (first, rest) = param(reader)?;
+    params_after(reader.at(rest), first)
 }
 
 #[cycle(types)]
-fn params_after<'t>(
-    alloc: Global,
-    text: &[u8],
-    inner: Depth,
-    first: Param,
-    tokens: &'t [Token],
-) -> Result<(Vec<Param>, &'t [Token]), Failed>
+fn params_after(reader: Reader<'_>, first: Param) -> Result<(Vec<Param>, &[Token]), Failed>
     ensures read { Gives (λ x. (each param_of x.0.items, x.1.now)) result
-        (params_after (utf8_in text.now) (type_at (utf8_in text.now) inner.levels) (param_of first) tokens.now) }
+        (params_after (utf8_in reader.entry.text.now) (type_at (utf8_in reader.entry.text.now)
+        reader.entry.depth.levels) (param_of first) reader.entry.tokens.now) }
 {
-    let mut params = Vec::new(alloc);
+    let mut params = Vec::new(reader.alloc);
     params.push(first)?;
-    let mut rest = tokens;
+    let mut rest = reader.tokens;
     while let Some(after) = skip(Sign::Comma, rest) {
-        let (item, after) = param(alloc, text, inner, after)?;
+        let (item, after) = param(reader.at(after))?;
         params.push(item)?;
         rest = after;
     }
@@ -298,18 +241,14 @@ fn params_after<'t>(
 // A field of a message.
 #[cycle(types)]
 #[tactic(auto, unfolding(crate::specs::ReadingTypes::proto_field_at, crate::specs::Reading::bind))]
-fn field<'t>(
-    alloc: Global,
-    text: &[u8],
-    inner: Depth,
-    tokens: &'t [Token],
-) -> Result<(ProtoField, &'t [Token]), Failed>
-    ensures read { Gives (λ x. (field_of x.0, x.1.now)) result (proto_field_at (utf8_in text.now) (type_at (utf8_in text.now) inner.levels) tokens.now) }
+fn field(reader: Reader<'_>) -> Result<(ProtoField, &[Token]), Failed>
+    ensures read { Gives (λ x. (field_of x.0, x.1.now)) result (proto_field_at (utf8_in reader.entry.text.now)
+        (type_at (utf8_in reader.entry.text.now) reader.entry.depth.levels) reader.entry.tokens.now) }
 {
-    let (Param { name, of }, rest) = param(alloc, text, inner, tokens)?;
+    let (Param { name, of }, rest) = param(reader)?;
     let rest = expect(Sign::At, rest)?;
     let (number, rest) = number(rest)?;
-    let (label, rest) = maybe_name(alloc, text, rest)?;
+    let (label, rest) = maybe_name(reader.at(rest))?;
     let field = ProtoField {
         name,
         of,
@@ -322,34 +261,29 @@ fn field<'t>(
 // Fields of a message, with commas between them.
 #[cycle(types)]
 #[tactic(auto, unfolding(crate::specs::ReadingTypes::proto_fields_at, crate::specs::Reading::bind))]
-fn fields<'t>(
-    alloc: Global,
-    text: &[u8],
-    inner: Depth,
-    tokens: &'t [Token],
-) -> Result<(Vec<ProtoField>, &'t [Token]), Failed>
-    ensures read { Gives (λ x. (each field_of x.0.items, x.1.now)) result (proto_fields_at (utf8_in text.now) (type_at (utf8_in text.now) inner.levels) tokens.now) }
+fn fields(reader: Reader<'_>) -> Result<(Vec<ProtoField>, &[Token]), Failed>
+    ensures read { Gives
+        (λ x. (each field_of x.0.items, x.1.now)) result (proto_fields_at (utf8_in reader.entry.text.now)
+        (type_at (utf8_in reader.entry.text.now) reader.entry.depth.levels) reader.entry.tokens.now) }
 {
-    let (first, rest) = field(alloc, text, inner, tokens)?;
-    fields_after(alloc, text, inner, first, rest)
+    let (first, rest) = field(reader)?;
+    fields_after(reader.at(rest), first)
 }
 
 #[cycle(types)]
-fn fields_after<'t>(
-    alloc: Global,
-    text: &[u8],
-    inner: Depth,
+fn fields_after(
+    reader: Reader<'_>,
     first: ProtoField,
-    tokens: &'t [Token],
-) -> Result<(Vec<ProtoField>, &'t [Token]), Failed>
+) -> Result<(Vec<ProtoField>, &[Token]), Failed>
     ensures read { Gives (λ x. (each field_of x.0.items, x.1.now)) result
-        (proto_fields_after (utf8_in text.now) (type_at (utf8_in text.now) inner.levels) (field_of first) tokens.now) }
+        (proto_fields_after (utf8_in reader.entry.text.now) (type_at (utf8_in reader.entry.text.now)
+        reader.entry.depth.levels) (field_of first) reader.entry.tokens.now) }
 {
-    let mut fields = Vec::new(alloc);
+    let mut fields = Vec::new(reader.alloc);
     fields.push(first)?;
-    let mut rest = tokens;
+    let mut rest = reader.tokens;
     while let Some(after) = skip(Sign::Comma, rest) {
-        let (item, after) = field(alloc, text, inner, after)?;
+        let (item, after) = field(reader.at(after))?;
         fields.push(item)?;
         rest = after;
     }

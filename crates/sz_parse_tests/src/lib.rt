@@ -1,4 +1,4 @@
-//! Tests of the parser: texts, and the trees or the refusals that they have.
+//! Tests of the parser and of the bounds of `when`: texts, and the trees, the bounds or the refusals that they have.
 #![tactic(auto)]
 
 #[cfg(test)]
@@ -10,4 +10,8 @@ mod outcome;
 #[cfg(test)]
 mod refusals;
 #[cfg(test)]
+mod rows;
+#[cfg(test)]
 mod shown;
+#[cfg(test)]
+mod told;

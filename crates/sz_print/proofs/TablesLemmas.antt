@@ -17,25 +17,30 @@ use Rattle.sz_print.specs.Tables.{table_lines, lines_from, lines_shown, rows_tex
 use Rattle.sz_print.specs.Laws.{ShowsItsEmits}
 
 -- the lines of one index list more
-pub lines_more : (table : Declaration) (all : List Indexed) (at : ℕ) (one : Indexed) (before text next : List ℕ) → slice_get all at ≡ Some one
-    → next ≡ text ++ row_lines table one.indexes one.rows → text ≡ before ++ table_lines table (take at all)
-    → next ≡ before ++ table_lines table (take (at + 1) all)
+pub lines_more : (table : Declaration) (all : List Indexed) (at : ℕ) (one : Indexed) (before text next : List ℕ)
+    → slice_get all at ≡ Some one → next ≡ text ++ row_lines table one.indexes one.rows
+    → text ≡ before ++ table_lines table (take at all) → next ≡ before ++ table_lines table (take (at + 1) all)
 lines_more table all at one before text next there grown is =
     let lines : Indexed → List ℕ = λ s. row_lines table s.indexes s.rows in
-    let front = take_more all at one (slice_get_within all at one there) ∙ ap (λ x. take at all ++ x ∷ []) (get_or_from_slice_get all at one one there) in
-    grown ∙ ap (λ t. t ++ lines one) is ∙ flat_map_more lines before (take at all) one ∙ ap (λ xs. before ++ flat_map lines xs) (sym front)
+    let front = take_more all at one (slice_get_within all at one there)
+    ∙ ap (λ x. take at all ++ x ∷ []) (get_or_from_slice_get all at one one there) in
+    grown ∙ ap (λ t. t ++ lines one) is ∙ flat_map_more lines before (take at all) one
+    ∙ ap (λ xs. before ++ flat_map lines xs) (sym front)
 
--- the text so far and that of the tables from this one on are the text of all tables, where the table with a number shows these rows
+-- the text so far and that of the tables from this one on are the text of all tables, where the table with a number
+-- shows these rows
 pub record IsTextUpTo (items : List TableDecl) (rows : ℕ → List Indexed) (at : ℕ) (text : List ℕ) : Type 0 where
   pub printed : text ++ lines_shown at (map seen_table (drop at items)) rows ≡ lines_shown 0 (map seen_table items) rows
 
-pub text_more : (items : List TableDecl) (rows : ℕ → List Indexed) (at : ℕ) (text next : List ℕ) (item : TableDecl) (found : List Indexed)
-    → at < length items → item ≡ get_or items at item → found ≡ rows at → next ≡ text ++ table_lines (seen_table item) found
+pub text_more : (items : List TableDecl) (rows : ℕ → List Indexed) (at : ℕ) (text next : List ℕ) (item : TableDecl)
+    (found : List Indexed) → at < length items → item ≡ get_or items at item → found ≡ rows at
+    → next ≡ text ++ table_lines (seen_table item) found
     → IsTextUpTo items rows at text → IsTextUpTo items rows (at + 1) next
 text_more items rows at text next item found less is shows grown before =
     let table = seen_table item in
     let more : suc at ≡ at + 1 = omega arith in
-    let front : drop at items ≡ item ∷ drop (suc at) items = drop-cons items at item less ∙ ap (λ x. x ∷ drop (suc at) items) (sym is) in
+    let front : drop at items ≡ item ∷ drop (suc at) items =
+    drop-cons items at item less ∙ ap (λ x. x ∷ drop (suc at) items) (sym is) in
     let rest : ℕ → List ℕ = λ n. lines_shown n (map seen_table (drop n items)) rows in
     record {
       printed =
@@ -61,7 +66,9 @@ rows_of_emits total emits stands =
     (λ i n d is there. stands.rows n d (ap (slice_get total.tables) (omega (arith, is)) ∙ there))
 
 -- the text of the rows of tables with the declarations of the total is that of the emits that the total stands for
-pub text_of_emits : (total : TotalState) (tables : List Declaration) (text : List ℕ) → tables ≡ total.tables → text ≡ rows_text tables (shown total)
+pub text_of_emits : (total : TotalState) (tables : List Declaration) (text : List ℕ) → tables ≡ total.tables
+    → text ≡ rows_text tables (shown total)
     → (emits : List EmitDatum) → StandsFor declarations emit_count shown total emits → text ≡ tables_text tables emits
 text_of_emits total tables text same is emits stands =
-    is ∙ ap (λ t. rows_text t (shown total)) same ∙ rows_of_emits total emits stands ∙ ap (λ t. tables_text t emits) (sym same)
+    is ∙ ap (λ t. rows_text t (shown total)) same ∙ rows_of_emits total emits stands
+    ∙ ap (λ t. tables_text t emits) (sym same)

@@ -16,7 +16,8 @@ is_number _ = false
 
 -- the sum of numbers, or the sums of tuples in braces
 abbrev pub sums_text : Shape → List ℤ → List ℕ
-sums_text element numbers = if is_number element then joined signed_decimal numbers else 123 ∷ joined signed_decimal numbers ++ 125 ∷ []
+sums_text element numbers =
+    if is_number element then joined signed_decimal numbers else 123 ∷ joined signed_decimal numbers ++ 125 ∷ []
 
 -- what a row shows, of a table with elements of this type
 abbrev pub shown_text : Shape → Shown → List ℕ
@@ -41,7 +42,8 @@ indexes_text (d ∷ ds) = flat_map index_text (d ∷ ds)
 -- the line of a row: the table's name, its index list, what the row shows and its weight
 abbrev pub row_line : Declaration → List Datum → RowDatum → List ℕ
 row_line table indexes row =
-    table.name ++ indexes_text indexes ++ codes " = " ++ shown_text table.element row.shown ++ weight_text row.weight ++ 10 ∷ []
+    table.name ++ indexes_text indexes ++ codes " = " ++ shown_text table.element row.shown
+    ++ weight_text row.weight ++ 10 ∷ []
 
 -- a line for each row
 abbrev pub row_lines : Declaration → List Datum → List RowDatum → List ℕ

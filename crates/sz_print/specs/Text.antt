@@ -68,7 +68,8 @@ abbrev mutual
   -- each pair after a comma
   pub further_pairs_text : Entries → List ℕ
   further_pairs_text no_entries = []
-  further_pairs_text (entry k v es) = (codes ", " ++ (value_text k ++ codes ": " ++ value_text v)) ++ further_pairs_text es
+  further_pairs_text (entry k v es) =
+      (codes ", " ++ (value_text k ++ codes ": " ++ value_text v)) ++ further_pairs_text es
 
 -- a key and its value, with a colon between them
 abbrev pub pair_text : Datum × Datum → List ℕ

@@ -16,14 +16,17 @@ use Rattle.sz_proto.specs.Found.{contents, array_of, octets_each}
 use Rattle.sz_proto.proofs.GoingLemmas.{GoesFrom, from_end, each_in_all}
 
 -- all elements are there, or one is lacking
-pub each_end : {A : Type 0} (in_one : Content → Option (List A)) (g : A → Datum) (bytes : List ℕ) (run : List WireField) (i : ℕ) (got : List Datum)
-    → GoesFrom (λ c. option_map (map g) (in_one c)) bytes run (in_all (λ c. option_map (map g) (in_one c)) (contents bytes run)) i got → length run ≤ i
+pub each_end : {A : Type 0} (in_one : Content → Option (List A)) (g : A → Datum) (bytes : List ℕ)
+    (run : List WireField) (i : ℕ) (got : List Datum) → GoesFrom (λ c. option_map (map g) (in_one c)) bytes run
+    (in_all (λ c. option_map (map g) (in_one c)) (contents bytes run)) i got → length run ≤ i
     → array_of (each_of g (in_all in_one (contents bytes run))) ≡ Some (values.array (data_of got))
 each_end in_one g bytes run i got h over = ap array_of (sym (each_in_all in_one g (contents bytes run))
-    ∙ from_end (λ c. option_map (map g) (in_one c)) bytes run (in_all (λ c. option_map (map g) (in_one c)) (contents bytes run)) i got h over)
+    ∙ from_end (λ c. option_map (map g) (in_one c)) bytes run
+    (in_all (λ c. option_map (map g) (in_one c)) (contents bytes run)) i got h over)
 
-pub each_none : {A : Type 0} (in_one : Content → Option (List A)) (g : A → Datum) (bytes : List ℕ) (run : List WireField)
-    → in_all (λ c. option_map (map g) (in_one c)) (contents bytes run) ≡ None → array_of (each_of g (in_all in_one (contents bytes run))) ≡ None
+pub each_none : {A : Type 0} (in_one : Content → Option (List A)) (g : A → Datum) (bytes : List ℕ)
+    (run : List WireField) → in_all (λ c. option_map (map g) (in_one c)) (contents bytes run) ≡ None
+    → array_of (each_of g (in_all in_one (contents bytes run))) ≡ None
 each_none in_one g bytes run h = ap array_of (sym (each_in_all in_one g (contents bytes run)) ∙ h)
 
 -- all byte strings
@@ -44,7 +47,8 @@ truths_append (pos (suc n) ∷ ns) ms = ap (λ (bs : List Bool). true ∷ bs) (t
 truths_append (negsuc n ∷ ns) ms = ap (λ (bs : List Bool). true ∷ bs) (truths_append ns ms)
 
 -- the truth value that one more number stands for
-pub truths_more : (ns : List ℤ) (i : ℕ) (d : ℤ) → i < length ns → truths_of (take (i + 1) ns) ≡ truths_of (take i ns) ++ truths_of (get_or ns i d ∷ [])
+pub truths_more : (ns : List ℤ) (i : ℕ) (d : ℤ) → i < length ns
+    → truths_of (take (i + 1) ns) ≡ truths_of (take i ns) ++ truths_of (get_or ns i d ∷ [])
 truths_more ns i d lt = ap truths_of (take_more ns i d lt) ∙ truths_append (take i ns) (get_or ns i d ∷ [])
 
 pub not_utf8 : (bytes : List ℕ) → (IsUtf8 bytes → ⊥) → is_utf8 bytes ≡ false
@@ -61,10 +65,12 @@ nonzero (pos zero) back = refl
 nonzero (pos (suc k)) back = by (eqb (of_z w64 (pos (suc k))) 0) refl
   where
     by : (t : Bool) → eqb (of_z w64 (pos (suc k))) 0 ≡ t → true ∷ [] ≡ not t ∷ []
-    by true e = absurd (let z : pos (suc k) ≡ to_z w64 0 = sym back ∙ ap (to_z w64) (eqb-true (of_z w64 (pos (suc k))) 0 e) in cc)
+    by true e = absurd
+        (let z : pos (suc k) ≡ to_z w64 0 = sym back ∙ ap (to_z w64) (eqb-true (of_z w64 (pos (suc k))) 0 e) in cc)
     by false e = refl
 nonzero (negsuc k) back = by (eqb (of_z w64 (negsuc k)) 0) refl
   where
     by : (t : Bool) → eqb (of_z w64 (negsuc k)) 0 ≡ t → true ∷ [] ≡ not t ∷ []
-    by true e = absurd (let z : negsuc k ≡ to_z w64 0 = sym back ∙ ap (to_z w64) (eqb-true (of_z w64 (negsuc k)) 0 e) in cc)
+    by true e =
+        absurd (let z : negsuc k ≡ to_z w64 0 = sym back ∙ ap (to_z w64) (eqb-true (of_z w64 (negsuc k)) 0 e) in cc)
     by false e = refl

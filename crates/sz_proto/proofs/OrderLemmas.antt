@@ -11,8 +11,10 @@ use Rattle.sz_wire.specs.declared.field.WireKind.TheVariants as kinds
 use Rattle.sz_proto.specs.Found.{with_number}
 
 -- what passes a test that only the items between two places pass
-filtered : {X : Type 0} (p : X → Bool) (xs : List X) (a b : ℕ) → a ≤ b → b ≤ length xs → ((k : ℕ) (d : X) → k < a → p (get_or xs k d) ≡ false)
-    → ((k : ℕ) (d : X) → a ≤ k → k < b → p (get_or xs k d) ≡ true) → ((k : ℕ) (d : X) → b ≤ k → k < length xs → p (get_or xs k d) ≡ false)
+filtered : {X : Type 0} (p : X → Bool) (xs : List X) (a b : ℕ) → a ≤ b → b ≤ length xs
+    → ((k : ℕ) (d : X) → k < a → p (get_or xs k d) ≡ false)
+    → ((k : ℕ) (d : X) → a ≤ k → k < b → p (get_or xs k d) ≡ true)
+    → ((k : ℕ) (d : X) → b ≤ k → k < length xs → p (get_or xs k d) ≡ false)
     → filter p xs ≡ slice_range xs a b
 filtered p [] zero zero le high before here after = refl
 filtered p [] a (suc b) le high before here after = absurd (omega (arith, high))
@@ -20,20 +22,23 @@ filtered p [] (suc a) zero le high before here after = absurd (omega (arith, le)
 filtered p (x ∷ xs) (suc a) zero le high before here after = absurd (omega (arith, le))
 filtered p (x ∷ xs) zero zero le high before here after =
     let head : p x ≡ false = after 0 x (omega arith) (omega arith) in
-    let rest = filtered p xs 0 0 (omega arith) (omega arith) (λ k d h. absurd (omega (arith, h))) (λ k d l h. absurd (omega (arith, h)))
-    (λ k d l h. after (suc k) d (omega arith) (omega (arith, h))) in
+    let rest = filtered p xs 0 0 (omega arith) (omega arith) (λ k d h. absurd (omega (arith, h)))
+    (λ k d l h. absurd (omega (arith, h))) (λ k d l h. after (suc k) d (omega arith) (omega (arith, h))) in
     rw head rest
 filtered {X} p (x ∷ xs) zero (suc b) le high before here after =
     let head : p x ≡ true = here 0 x (omega arith) (omega arith) in
     let rest = filtered p xs 0 b (omega arith) (omega (arith, high)) (λ k d h. absurd (omega (arith, h)))
-    (λ k d l h. here (suc k) d (omega arith) (omega (arith, h))) (λ k d l h. after (suc k) d (omega (arith, l)) (omega (arith, h))) in
+    (λ k d l h. here (suc k) d (omega arith) (omega (arith, h)))
+    (λ k d l h. after (suc k) d (omega (arith, l)) (omega (arith, h))) in
     let size : suc b - 0 ≡ suc b = omega arith in
     let same : b - 0 ≡ b = omega arith in
     rw (head, size) (ap (λ (ys : List X). x ∷ ys) (rest ∙ ap (λ (n : ℕ). take n xs) same))
 filtered p (x ∷ xs) (suc a) (suc b) le high before here after =
     let head : p x ≡ false = before 0 x (omega arith) in
-    let rest = filtered p xs a b (omega (arith, le)) (omega (arith, high)) (λ k d h. before (suc k) d (omega (arith, h)))
-    (λ k d l h. here (suc k) d (omega (arith, l)) (omega (arith, h))) (λ k d l h. after (suc k) d (omega (arith, l)) (omega (arith, h))) in
+    let rest =
+    filtered p xs a b (omega (arith, le)) (omega (arith, high)) (λ k d h. before (suc k) d (omega (arith, h)))
+    (λ k d l h. here (suc k) d (omega (arith, l)) (omega (arith, h)))
+    (λ k d l h. after (suc k) d (omega (arith, l)) (omega (arith, h))) in
     let size : suc b - suc a ≡ b - a = omega arith in
     rw (head, size) rest
 
@@ -48,8 +53,10 @@ more_number m n high = grind (arith, nat_tests)
 
 -- the fields between the first whose number isn't less and the first whose number is more
 pub number_found : (fs : List WireField) (n a b : ℕ) → a ≤ b → b ≤ length fs
-    → ((k : ℕ) (d : WireField) → k < a → ltb (get_or fs k d).number n ≡ true) → ((k : ℕ) (d : WireField) → a ≤ k → k < length fs → ltb (get_or fs k d).number n ≡ false)
-    → ((k : ℕ) (d : WireField) → k < b → leb (get_or fs k d).number n ≡ true) → ((k : ℕ) (d : WireField) → b ≤ k → k < length fs → leb (get_or fs k d).number n ≡ false)
+    → ((k : ℕ) (d : WireField) → k < a → ltb (get_or fs k d).number n ≡ true)
+    → ((k : ℕ) (d : WireField) → a ≤ k → k < length fs → ltb (get_or fs k d).number n ≡ false)
+    → ((k : ℕ) (d : WireField) → k < b → leb (get_or fs k d).number n ≡ true)
+    → ((k : ℕ) (d : WireField) → b ≤ k → k < length fs → leb (get_or fs k d).number n ≡ false)
     → slice_range fs a b ≡ with_number n fs
 number_found fs n a b le high low not_low most more = sym (filtered (λ (f : WireField). f.number == n) fs a b le high
     (λ k d h. less_number _ n (low k d h))
@@ -72,15 +79,18 @@ tie_is a b = by (ltb a b) (ltb b a) (b == a) (a == b) refl refl refl
     by false false false w e f g = absurd (grind (arith, nat_tests))
 
 -- a stable sort by the number keeps the order of fields with the same one
-pub number_stays : (fs gs : List WireField) → IsStableByKey (λ (f : WireField). f.number) nat_cmp fs gs → (n : ℕ) → with_number n gs ≡ with_number n fs
+pub number_stays : (fs gs : List WireField) → IsStableByKey (λ (f : WireField). f.number) nat_cmp fs gs → (n : ℕ)
+    → with_number n gs ≡ with_number n fs
 number_stays fs gs stable n =
     let at : WireField = record { number = n; kind = kinds.Group; next = 0 } in
-    let same : (f : WireField) → ties (λ (x y : WireField). is_lt (nat_cmp x.number y.number)) at f ≡ (f.number == n) = λ f. tie_is n f.number in
+    let same : (f : WireField)
+    → ties (λ (x y : WireField). is_lt (nat_cmp x.number y.number)) at f ≡ (f.number == n) = λ f. tie_is n f.number in
     sym (λ i. filter (λ f. same f i) gs) ∙ stable at ∙ (λ i. filter (λ f. same f i) fs)
 
 -- the two places at which a list in order of the numbers is cut
 pub cut_in_order : (fs : List WireField) (n a b : ℕ) → a ≤ length fs
-    → ((k : ℕ) (d : WireField) → a ≤ k → k < length fs → ltb (get_or fs k d).number n ≡ false) → ((k : ℕ) (d : WireField) → b ≤ k → k < length fs → leb (get_or fs k d).number n ≡ false)
+    → ((k : ℕ) (d : WireField) → a ≤ k → k < length fs → ltb (get_or fs k d).number n ≡ false)
+    → ((k : ℕ) (d : WireField) → b ≤ k → k < length fs → leb (get_or fs k d).number n ≡ false)
     → ((k : ℕ) (d : WireField) → k < a → ltb (get_or fs k d).number n ≡ true) → a ≤ b
 cut_in_order fs n a b within not_low more low = by (leb a b) refl
   where
@@ -93,4 +103,5 @@ cut_in_order fs n a b within not_low more low = by (leb a b) refl
         let lt : b < a = leb-false a b e in
         let less : ltb (get_or fs b at).number n ≡ true = low b at lt in
         let not_most : leb (get_or fs b at).number n ≡ false = more b at (omega arith) (omega (arith, lt, within)) in
-        absurd (let l = ltb-true (get_or fs b at).number n less in let m = leb-false (get_or fs b at).number n not_most in omega (arith, l, m))
+        absurd (let l = ltb-true (get_or fs b at).number n less in
+        let m = leb-false (get_or fs b at).number n not_most in omega (arith, l, m))

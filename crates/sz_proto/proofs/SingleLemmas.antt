@@ -11,8 +11,9 @@ use Rattle.sz_proto.specs.Elements.{truth_in, truths, number_in, numbers, texts_
 use Rattle.sz_proto.specs.Found.{contents, last_text_of, payload_or}
 
 -- what the occurrences from a place on come to
-pub from_next : {R : Type 0} (read : List Content → R) (bytes : List ℕ) (run : List WireField) (i : ℕ) (d : WireField) → i < length run
-    → read (contents bytes (drop i run)) ≡ read (content_in bytes (get_or run i d).kind ∷ contents bytes (drop (i + 1) run))
+pub from_next : {R : Type 0} (read : List Content → R) (bytes : List ℕ) (run : List WireField) (i : ℕ) (d : WireField)
+    → i < length run → read (contents bytes (drop i run))
+    ≡ read (content_in bytes (get_or run i d).kind ∷ contents bytes (drop (i + 1) run))
 from_next read bytes run i d lt = at_drop_more (λ fs. read (contents bytes fs)) run i d lt
 
 pub from_last : {R : Type 0} (read : List Content → R) (bytes : List ℕ) (run : List WireField) (i : ℕ) → length run ≤ i
@@ -20,11 +21,13 @@ pub from_last : {R : Type 0} (read : List Content → R) (bytes : List ℕ) (run
 from_last read bytes run i over = ap (λ (fs : List WireField). read (contents bytes fs)) (drop_all i run over)
 
 -- one more occurrence of a single field
-pub truth_more : (last : Bool) (c : Content) (cs : List Content) (b : Bool) → truth_in c ≡ Some b → last_or last (truths (c ∷ cs)) ≡ last_or b (truths cs)
+pub truth_more : (last : Bool) (c : Content) (cs : List Content) (b : Bool) → truth_in c ≡ Some b
+    → last_or last (truths (c ∷ cs)) ≡ last_or b (truths cs)
 unfolding truths last_or
 truth_more last c cs b is = rw is refl
 
-pub truth_same : (last : Bool) (c : Content) (cs : List Content) → truth_in c ≡ None → last_or last (truths (c ∷ cs)) ≡ last_or last (truths cs)
+pub truth_same : (last : Bool) (c : Content) (cs : List Content) → truth_in c ≡ None
+    → last_or last (truths (c ∷ cs)) ≡ last_or last (truths cs)
 unfolding truths last_or
 truth_same last c cs is = rw is refl
 
@@ -38,7 +41,8 @@ pub number_same : (code : Encoding) (last : ℤ) (c : Content) (cs : List Conten
 unfolding numbers last_or
 number_same code last c cs is = rw is refl
 
-pub text_more : (last : List ℕ) (c : Content) (cs : List Content) (t : List ℕ) → texts_in c ≡ Some (t ∷ []) → last_text_of last (c ∷ cs) ≡ last_text_of t cs
+pub text_more : (last : List ℕ) (c : Content) (cs : List Content) (t : List ℕ) → texts_in c ≡ Some (t ∷ [])
+    → last_text_of last (c ∷ cs) ≡ last_text_of t cs
 unfolding in_all last_or
 text_more last c cs t is = rw is (by (in_all texts_in cs))
   where
@@ -48,7 +52,8 @@ text_more last c cs t is = rw is (by (in_all texts_in cs))
     by None = refl
     by (Some ts) = refl
 
-pub text_same : (last : List ℕ) (c : Content) (cs : List Content) → texts_in c ≡ Some [] → last_text_of last (c ∷ cs) ≡ last_text_of last cs
+pub text_same : (last : List ℕ) (c : Content) (cs : List Content) → texts_in c ≡ Some []
+    → last_text_of last (c ∷ cs) ≡ last_text_of last cs
 unfolding in_all last_or
 text_same last c cs is = rw is (by (in_all texts_in cs))
   where
@@ -58,7 +63,8 @@ text_same last c cs is = rw is (by (in_all texts_in cs))
     by None = refl
     by (Some ts) = refl
 
-pub text_none : (last : List ℕ) (c : Content) (cs : List Content) → texts_in c ≡ None → last_text_of last (c ∷ cs) ≡ None
+pub text_none : (last : List ℕ) (c : Content) (cs : List Content) → texts_in c ≡ None
+    → last_text_of last (c ∷ cs) ≡ None
 unfolding in_all
 text_none last c cs is = rw is refl
 
@@ -75,7 +81,8 @@ pub truth_next : (last : Bool) (c : Content) (cs : List Content) (found : Option
 truth_next last c cs None is = sym (truth_same last c cs (sym is))
 truth_next last c cs (Some b) is = sym (truth_more last c cs b (sym is))
 
-pub number_next : (code : Encoding) (last : ℤ) (c : Content) (cs : List Content) (found : Option ℤ) → found ≡ number_in code c
+pub number_next : (code : Encoding) (last : ℤ) (c : Content) (cs : List Content) (found : Option ℤ)
+    → found ≡ number_in code c
     → last_or (unwrap_or found last) (numbers code cs) ≡ last_or last (numbers code (c ∷ cs))
 number_next code last c cs None is = sym (number_same code last c cs (sym is))
 number_next code last c cs (Some n) is = sym (number_more code last c cs n (sym is))
@@ -88,7 +95,8 @@ pub number_end : (code : Encoding) (last : ℤ) → last_or last (numbers code [
 unfolding numbers last_or
 number_end code last = refl
 
-pub payload_next : (last : List ℕ) (c : Content) (cs : List Content) → last_or (payload_or c last) (payloads cs) ≡ last_or last (payloads (c ∷ cs))
+pub payload_next : (last : List ℕ) (c : Content) (cs : List Content)
+    → last_or (payload_or c last) (payloads cs) ≡ last_or last (payloads (c ∷ cs))
 unfolding payloads last_or
 payload_next last (span p) cs = refl
 payload_next last (varint n) cs = refl

@@ -44,11 +44,13 @@ in_front (Some x) xs = x ∷ xs
 abbrev pub packed_at : Encoding → List ℕ → Option (ℤ × List ℕ)
 packed_at codes.Plain bytes = option_map (λ (found : ℕ × List ℕ). (cast_signed w64 found.0, found.1)) (varint_at bytes)
 packed_at codes.Zigzag bytes = option_map (λ (found : ℕ × List ℕ). (unzigzag found.0, found.1)) (varint_at bytes)
-packed_at codes.Fixed32 bytes = option_map (λ (found : ℕ × List ℕ). (cast_signed w32 found.0, found.1)) (fixed_at w32 bytes)
-packed_at codes.Fixed64 bytes = option_map (λ (found : ℕ × List ℕ). (cast_signed w64 found.0, found.1)) (fixed_at w64 bytes)
+packed_at codes.Fixed32 bytes =
+    option_map (λ (found : ℕ × List ℕ). (cast_signed w32 found.0, found.1)) (fixed_at w32 bytes)
+packed_at codes.Fixed64 bytes =
+    option_map (λ (found : ℕ × List ℕ). (cast_signed w64 found.0, found.1)) (fixed_at w64 bytes)
 
--- the packed elements that these bytes are, one after another. Each turn takes a byte at least, so no more turns are needed than
--- there are bytes.
+-- the packed elements that these bytes are, one after another. Each turn takes a byte at least, so no more turns are
+-- needed than there are bytes.
 unfoldable pub packed_within : ℕ → Encoding → List ℕ → Option (List ℤ)
 packed_within turns code [] = Some []
 packed_within zero code (b ∷ bytes) = None
@@ -56,8 +58,8 @@ packed_within (suc turns) code (b ∷ bytes) = option_and_then
     (λ (found : ℤ × List ℕ). option_map (λ (more : List ℤ). found.0 ∷ more) (packed_within turns code found.1))
     (packed_at code (b ∷ bytes))
 
--- the whole numbers that an occurrence of a repeated field holds: one, or packed ones; none where it is passed over; no answer
--- where a packed payload doesn't divide into elements
+-- the whole numbers that an occurrence of a repeated field holds: one, or packed ones; none where it is passed over;
+-- no answer where a packed payload doesn't divide into elements
 abbrev pub numbers_in : Encoding → Content → Option (List ℤ)
 numbers_in code (varint n) = Some (from_varint code n ∷ [])
 numbers_in code (eight n) = Some (cast_signed w64 n ∷ [])

@@ -103,4 +103,5 @@ pub record IsOrdered (len : ℕ) (read found : List WireField) : Type 0 where
 abbrev pub AreFound : List ℕ → ℕ → List (List ℕ) → ℕ → Option (Vec WireField) → Type 0
 AreFound bytes depth payloads len None = found_within depth payloads ≡ None
 AreFound bytes depth payloads len (Some found) =
-    (read : List WireField) × (found_within depth payloads ≡ Some (map (field_in bytes) read)) × IsOrdered len read found.items
+    (read : List WireField) × (found_within depth payloads ≡ Some (map (field_in bytes) read))
+    × IsOrdered len read found.items

@@ -1,7 +1,7 @@
 -- Laws of the values of messages.
 use Rattle.std.specs.Prelude.{◌≡◌, ℕ, List, true, IfSome}
 use Rattle.sz_types.specs.Data.{Shape}
-use Rattle.sz_typing_rules.specs.Types.{has_type}
+use Rattle.sz_types.specs.Types.{has_type}
 use Rattle.sz_proto.specs.Messages.{decoded}
 
 -- the value that bytes are by a type has this type

@@ -28,8 +28,8 @@ inside depth = if nat_lt depth deepest then depth + 1 else deepest + 1
 abbrev pub tuple_of : Option (List Datum) → Option Datum
 tuple_of parts = option_map (λ (found : List Datum). values.tuple (data_of found)) parts
 
--- the message that these payloads are together, at this level, by the value of its list of fields; where there is no payload, all
--- fields are missing, at any level
+-- the message that these payloads are together, at this level, by the value of its list of fields; where there is no
+-- payload, all fields are missing, at any level
 unfoldable pub message_in : (List Field → Option (List Datum)) → ℕ → List (List ℕ) → Option Datum
 message_in values_of depth [] = tuple_of (values_of [])
 message_in values_of depth (payload ∷ others) =
@@ -44,15 +44,18 @@ unfoldable mutual
       (λ (first : Datum). option_map (λ (more : List Datum). first ∷ more) (values_of others depth fields))
       (value_of type code depth (occurrences number fields))
 
-  -- the value of a field, of which these are the occurrences in order: of a scalar the last one, or the value of a missing field;
+  -- the value of a field, of which these are the occurrences in order: of a scalar the last one, or the value of a
+  -- missing field;
   -- of a message all payloads together; of an array all elements
   pub value_of : Shape → Encoding → ℕ → List Content → Option Datum
   value_of shapes.truth code depth contents = Some (values.truth (last_or false (truths contents)))
   value_of shapes.int code depth contents = Some (values.int (last_or (pos 0) (numbers code contents)))
   value_of shapes.time code depth contents = Some (values.time (last_or (pos 0) (numbers code contents)))
-  value_of shapes.str code depth contents = option_map (λ (found : List (List ℕ)). values.str (last_or [] found)) (in_all texts_in contents)
+  value_of shapes.str code depth contents =
+      option_map (λ (found : List (List ℕ)). values.str (last_or [] found)) (in_all texts_in contents)
   value_of shapes.bytes code depth contents = Some (values.bytes (last_or [] (payloads contents)))
-  value_of (shapes.proto inner) code depth contents = message_in (values_of inner (inside depth)) (inside depth) (payloads contents)
+  value_of (shapes.proto inner) code depth contents =
+      message_in (values_of inner (inside depth)) (inside depth) (payloads contents)
   value_of (shapes.array element) code depth contents =
       option_map (λ (found : List Datum). values.array (data_of found)) (elements_of element code depth contents)
   value_of (shapes.mapping key value) code depth contents = None
@@ -66,7 +69,8 @@ unfoldable mutual
   elements_of shapes.str code depth contents = each_of values.str (in_all texts_in contents)
   elements_of shapes.bytes code depth contents = Some (map values.bytes (payloads contents))
   elements_of (shapes.proto inner) code depth contents =
-      for_each (λ payload. message_in (values_of inner (inside depth)) (inside depth) (payload ∷ [])) (payloads contents)
+      for_each (λ payload. message_in (values_of inner (inside depth)) (inside depth) (payload ∷ []))
+      (payloads contents)
   elements_of (shapes.array element) code depth contents = None
   elements_of (shapes.mapping key value) code depth contents = None
   elements_of (shapes.tuple inner) code depth contents = None

@@ -3,8 +3,8 @@ use Rattle.std.specs.Prelude.{ℕ, zero, suc, List, [], ◌∷◌, ◌++◌, len
 use Rattle.std.specs.Option.{option_and_then, option_map}
 use Rattle.sz_wire.specs.Field.{Content, varint, eight, four, span, group, Field, field_at}
 
--- the fields that these bytes are, one after another, in a message of this level. Each turn takes a byte at least, so no more
--- turns are needed than there are bytes.
+-- the fields that these bytes are, one after another, in a message of this level. Each turn takes a byte at least, so
+-- no more turns are needed than there are bytes.
 unfoldable pub fields_within : ℕ → ℕ → List ℕ → Option (List Field)
 fields_within turns depth [] = Some []
 fields_within zero depth (b ∷ bytes) = None

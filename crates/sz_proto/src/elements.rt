@@ -66,7 +66,8 @@ fn add_numbers(
     elements: &mut Vec<Value>,
 ) -> Result<bool, NoMemory>
     requires within { LiesBefore (length bytes.now) kind }
-    ensures value { IfOk result (λ whole. Takes (number_each is_time code (content_in bytes.now kind)) (map seen elements.old.items) (map seen elements.new.items) whole) }
+    ensures value { IfOk result (λ whole. Takes (number_each is_time code (content_in bytes.now kind))
+        (map seen elements.old.items) (map seen elements.new.items) whole) }
 {
     match kind {
         WireKind::Span(from, to) => {

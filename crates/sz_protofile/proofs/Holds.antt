@@ -21,8 +21,8 @@ nothing = None
 pub none_holds : {A : Type 0} (P : A → Type 0) → Holds nothing P
 none_holds P = record { holds = λ y e. absurd cc }
 
-pub bind_holds : {A B : Type 0} {o : Option A} {P : A → Type 0} {f : A → Option B} {Q : B → Type 0} → Holds o P → ((x : A) → P x → Holds (f x) Q)
-    → Holds (o >>= f) Q
+pub bind_holds : {A B : Type 0} {o : Option A} {P : A → Type 0} {f : A → Option B} {Q : B → Type 0} → Holds o P
+    → ((x : A) → P x → Holds (f x) Q) → Holds (o >>= f) Q
 unfolding bind
 bind_holds {o = Some x} h k = k x (h.holds x refl)
 bind_holds {o = None} h k = none_holds _

@@ -1,3 +1,5 @@
+-- examples
+mod StandardFacts
 mod Holds
 pub mod LengthLemmas
 pub mod LineLemmas

@@ -28,7 +28,8 @@ pub record IsInside (text : Spelling) (tokens : List Token) (depth : ℕ) (ts : 
   pub onward : BeginsPart text (here ∷ rest) → GoesToEnd text depth ts
 
 -- the lines so far, and what is known of the part of the file that was begun and not ended
-pub record IsAt (text : Spelling) (tokens : List Token) (all : List Line) (depth : ℕ) (ts : List Token) (p : Place) : Type 0 where
+pub record IsAt (text : Spelling) (tokens : List Token) (all : List Line) (depth : ℕ) (ts : List Token)
+    (p : Place) : Type 0 where
   pub reads : Reads text 0 all tokens depth ts
   pub part : (depth ≡ 0) ⊎ IsInside text tokens depth ts p
   pub few : depth + length ts ≤ length tokens
@@ -38,28 +39,32 @@ module _ (text : Spelling) (tokens : List Token) where
   unfolding Reads
   starts p = record { reads = (refl, refl); part = inl refl; few = omega arith }
 
-  outside : (all : List Line) (depth : ℕ) (t : Token) (ts : List Token) → Reads text 0 all tokens depth (t ∷ ts) → depth ≡ 0
-      → IsInside text tokens depth (t ∷ ts) t.place
+  outside : (all : List Line) (depth : ℕ) (t : Token) (ts : List Token)
+      → Reads text 0 all tokens depth (t ∷ ts) → depth ≡ 0 → IsInside text tokens depth (t ∷ ts) t.place
   outside all depth t ts reads none = record {
     front = all;
     here = t;
     rest = ts;
     reads = subst (λ (d : ℕ). Reads text 0 all tokens d (t ∷ ts)) none reads;
     place = refl;
-    onward = λ b. subst (λ (d : ℕ). GoesToEnd text d (t ∷ ts)) (sym none) (record { line = b.line; more = b.more; rest = b.rest; reads = b.reads });
+    onward = λ b. subst (λ (d : ℕ). GoesToEnd text d (t ∷ ts)) (sym none)
+        (record { line = b.line; more = b.more; rest = b.rest; reads = b.reads });
   }
 
   -- at each token a part of the file is read that begins here, or was begun before
-  pub inside : (all : List Line) (depth : ℕ) (t : Token) (ts : List Token) (p : Place) → IsAt text tokens all depth (t ∷ ts) p
-      → IsInside text tokens depth (t ∷ ts) (place_in depth p t)
+  pub inside : (all : List Line) (depth : ℕ) (t : Token) (ts : List Token) (p : Place)
+      → IsAt text tokens all depth (t ∷ ts) p → IsInside text tokens depth (t ∷ ts) (place_in depth p t)
   inside all depth t ts p at = go (eqb depth 0) refl at.part
     where
-      go : (x : Bool) → eqb depth 0 ≡ x → (depth ≡ 0) ⊎ IsInside text tokens depth (t ∷ ts) p → IsInside text tokens depth (t ∷ ts) (place_in depth p t)
+      go : (x : Bool) → eqb depth 0 ≡ x → (depth ≡ 0) ⊎ IsInside text tokens depth (t ∷ ts) p
+          → IsInside text tokens depth (t ∷ ts) (place_in depth p t)
       go true e part = rw e (outside all depth t ts at.reads (eqb-true depth 0 e))
-      go false e (inl none) = absurd (let zero_is : eqb depth 0 ≡ true = rw none refl in let both = sym e ∙ zero_is in cc)
+      go false e (inl none) =
+          absurd (let zero_is : eqb depth 0 ≡ true = rw none refl in let both = sym e ∙ zero_is in cc)
       go false e (inr within) = rw e within
 
-  pub stuck : (depth : ℕ) (ts : List Token) (p : Place) → IsInside text tokens depth ts p → line_at text depth ts ≡ None → IsStuckAt text tokens p
+  pub stuck : (depth : ℕ) (ts : List Token) (p : Place) → IsInside text tokens depth ts p
+      → line_at text depth ts ≡ None → IsStuckAt text tokens p
   unfolding Reads
   stuck depth ts p at none = record {
     front = at.front;
@@ -70,7 +75,8 @@ module _ (text : Spelling) (tokens : List Token) where
     none = λ b. let e = sym none ∙ (at.onward b).reads.1 in absurd cc;
   }
 
-  pub stuck_at_end : (all : List Line) (depth : ℕ) (p : Place) → IsAt text tokens all depth [] p → 0 < depth → IsStuckAt text tokens p
+  pub stuck_at_end : (all : List Line) (depth : ℕ) (p : Place) → IsAt text tokens all depth [] p → 0 < depth
+      → IsStuckAt text tokens p
   unfolding Reads
   stuck_at_end all depth p at some = go at.part
     where
@@ -85,7 +91,8 @@ module _ (text : Spelling) (tokens : List Token) where
         none = λ b. no_line text depth (within.onward b).line (within.onward b).reads.0 (within.onward b).reads.1;
       }
 
-  pub ends : (all : List Line) (depth : ℕ) (p : Place) → IsAt text tokens all depth [] p → depth ≡ 0 → Reads text 0 all tokens 0 []
+  pub ends : (all : List Line) (depth : ℕ) (p : Place) → IsAt text tokens all depth [] p → depth ≡ 0
+      → Reads text 0 all tokens 0 []
   ends all depth p at none = subst (λ (d : ℕ). Reads text 0 all tokens d []) none at.reads
 
   deeper : (line : Line) (depth : ℕ) → depth_after line depth ≤ depth + 1
@@ -99,8 +106,8 @@ module _ (text : Spelling) (tokens : List Token) where
   deeper (lines.Unread member) depth = omega arith
 
   -- the part goes on after its next line too
-  further : (depth d : ℕ) (line : Line) (ts mid : List Token) → line_at text depth ts ≡ Some (line, mid) → depth_after line depth ≡ suc d
-      → GoesToEnd text depth ts → GoesToEnd text (suc d) mid
+  further : (depth d : ℕ) (line : Line) (ts mid : List Token) → line_at text depth ts ≡ Some (line, mid)
+      → depth_after line depth ≡ suc d → GoesToEnd text depth ts → GoesToEnd text (suc d) mid
   unfolding Reads
   further depth d line ts mid e deep g = go g.more (subst (λ (x : ℕ). Reads text x g.more mid 0 g.rest) deep after)
     where
@@ -109,21 +116,24 @@ module _ (text : Spelling) (tokens : List Token) where
 
       after : Reads text (depth_after line depth) g.more mid 0 g.rest
       after = subst (λ (x : Line). Reads text (depth_after x depth) g.more mid 0 g.rest) (sym (ap (λ x. x.0) same))
-          (subst (λ (x : List Token). Reads text (depth_after g.line depth) g.more x 0 g.rest) (sym (ap (λ x. x.1) same)) g.reads.2)
+          (subst (λ (x : List Token). Reads text (depth_after g.line depth) g.more x 0 g.rest)
+          (sym (ap (λ x. x.1) same)) g.reads.2)
 
       go : (more : List Line) → Reads text (suc d) more mid 0 g.rest → GoesToEnd text (suc d) mid
       go [] r = absurd (omega (arith, r.0))
       go (l ∷ more) r = record { line = l; more = more; rest = g.rest; reads = r }
 
-  pub goes_on : (all : List Line) (depth : ℕ) (ts mid : List Token) (p q : Place) (line : Line) → IsAt text tokens all depth ts q
-      → IsInside text tokens depth ts p → line_at text depth ts ≡ Some (line, mid) → IsAt text tokens (all ++ line ∷ []) (depth_after line depth) mid p
+  pub goes_on : (all : List Line) (depth : ℕ) (ts mid : List Token) (p q : Place) (line : Line)
+      → IsAt text tokens all depth ts q → IsInside text tokens depth ts p → line_at text depth ts ≡ Some (line, mid)
+      → IsAt text tokens (all ++ line ∷ []) (depth_after line depth) mid p
   goes_on all depth ts mid p q line at within e = record {
     reads = one_more text 0 depth all line tokens ts mid at.reads e;
     part = go (depth_after line depth) refl;
     few = omega (arith, at.few, deeper line depth, line_shorter text depth ts mid line e);
   }
     where
-      go : (d : ℕ) → depth_after line depth ≡ d → (depth_after line depth ≡ 0) ⊎ IsInside text tokens (depth_after line depth) mid p
+      go : (d : ℕ) → depth_after line depth ≡ d
+          → (depth_after line depth ≡ 0) ⊎ IsInside text tokens (depth_after line depth) mid p
       go zero deep = inl deep
       go (suc d) deep = inr (subst (λ (x : ℕ). IsInside text tokens x mid p) (sym deep) (record {
         front = within.front;
@@ -135,18 +145,18 @@ module _ (text : Spelling) (tokens : List Token) where
       }))
 
   -- the same at the first of some tokens
-  pub inside_at : (all : List Line) (depth : ℕ) (ts : List Token) (p : Place) (d : Token) → 1 ≤ length ts → IsAt text tokens all depth ts p
-      → IsInside text tokens depth ts (place_in depth p (get_or ts 0 d))
+  pub inside_at : (all : List Line) (depth : ℕ) (ts : List Token) (p : Place) (d : Token) → 1 ≤ length ts
+      → IsAt text tokens all depth ts p → IsInside text tokens depth ts (place_in depth p (get_or ts 0 d))
   inside_at all depth [] p d some at = absurd (omega (arith, some))
   inside_at all depth (t ∷ ts) p d some at = inside all depth t ts p at
 
   -- the same where no token is left
-  pub stuck_after : (all : List Line) (depth : ℕ) (ts : List Token) (p : Place) → length ts < 1 → IsAt text tokens all depth ts p → 0 < depth
-      → IsStuckAt text tokens p
+  pub stuck_after : (all : List Line) (depth : ℕ) (ts : List Token) (p : Place) → length ts < 1
+      → IsAt text tokens all depth ts p → 0 < depth → IsStuckAt text tokens p
   stuck_after all depth [] p none at some = stuck_at_end all depth p at some
   stuck_after all depth (t ∷ ts) p none at some = absurd (omega (arith, none))
 
-  pub ends_after : (all : List Line) (depth : ℕ) (ts : List Token) (p : Place) → length ts < 1 → IsAt text tokens all depth ts p → depth ≤ 0
-      → Reads text 0 all tokens 0 []
+  pub ends_after : (all : List Line) (depth : ℕ) (ts : List Token) (p : Place) → length ts < 1
+      → IsAt text tokens all depth ts p → depth ≤ 0 → Reads text 0 all tokens 0 []
   ends_after all depth [] p none at low = ends all depth p at (omega (arith, low))
   ends_after all depth (t ∷ ts) p none at low = absurd (omega (arith, none))

@@ -12,9 +12,11 @@ is_closing b = b == 41 || b == 93 || b == 125
 
 -- what a sign that isn't the bracket due does: an opening bracket makes its closing one due
 abbrev pub opens : ℕ → Turn
-opens b = if b == 40 then turns.Open 41 else (if b == 91 then turns.Open 93 else (if b == 123 then turns.Open 125 else turns.Pass))
+opens b = if b == 40 then turns.Open 41
+    else (if b == 91 then turns.Open 93 else (if b == 123 then turns.Open 125 else turns.Pass))
 
--- what a sign does where this closing bracket is due, or none; a semicolon outside brackets ends what is passed over, if that is asked
+-- what a sign does where this closing bracket is due, or none; a semicolon outside brackets ends what is passed over,
+-- if that is asked
 abbrev pub sign_turn : Bool → Option ℕ → ℕ → Turn
 sign_turn ends None b = if is_closing b || (ends && b == 59) then turns.Stop else opens b
 sign_turn ends (Some due) b = if b == due then turns.Close else (if is_closing b then turns.Fail else opens b)
@@ -45,8 +47,8 @@ taken (turns.Open d) due t ts go = go (due ++ d ∷ [])
 taken turns.Close due t ts go = go (outer due)
 taken turns.Fail due t ts go = None
 
--- what is left after the longest row of tokens in which brackets match, and outside of which no semicolon stands if that is asked,
--- where these closing brackets are due, the innermost last
+-- what is left after the longest row of tokens in which brackets match, and outside of which no semicolon stands if
+-- that is asked, where these closing brackets are due, the innermost last
 unfoldable pub past : Bool → List ℕ → List Token → Option (List Token)
 past ends due [] = at_end due
 past ends due (t ∷ ts) = taken (turn_of ends (innermost due) t.kind) due t ts (λ ds. past ends ds ts)

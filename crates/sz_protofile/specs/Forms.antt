@@ -38,7 +38,8 @@ module _ (text : Spelling) where
 
   -- `message name {`
   unfoldable pub message_at : List Token → Read Line
-  message_at ts = after_word text keywords.Message ts >>= λ a. name_at text a >>= λ x. after_sign 123 x.1 >>= λ b. Some (lines.Message x.0, b)
+  message_at ts = after_word text keywords.Message ts >>= λ a. name_at text a >>= λ x. after_sign 123 x.1
+      >>= λ b. Some (lines.Message x.0, b)
 
   -- `enum name { .. }`
   unfoldable pub enum_at : List Token → Read Line
@@ -59,7 +60,8 @@ module _ (text : Spelling) where
 
   -- `syntax = ".." ;`
   unfoldable pub syntax_at : List Token → Read Line
-  syntax_at ts = after_word text keywords.Syntax ts >>= λ a. after_sign 61 a >>= λ b. after_quoted b >>= λ c. ended lines.Passed c
+  syntax_at ts = after_word text keywords.Syntax ts >>= λ a. after_sign 61 a >>= λ b. after_quoted b
+      >>= λ c. ended lines.Passed c
 
   -- `package word ;`
   unfoldable pub package_at : List Token → Read Line
@@ -71,7 +73,8 @@ module _ (text : Spelling) where
 
   -- `import ".." ;`
   unfoldable pub import_at : List Token → Read Line
-  import_at ts = after_word text keywords.Import ts >>= λ a. past_manner a >>= λ b. after_quoted b >>= λ c. ended lines.Passed c
+  import_at ts = after_word text keywords.Import ts >>= λ a. past_manner a >>= λ b. after_quoted b
+      >>= λ c. ended lines.Passed c
 
   -- `service` or `extend`, a word, and `{ .. }`
   unfoldable pub service_at : List Token → Read Line
@@ -90,7 +93,8 @@ module _ (text : Spelling) where
   -- ---- parts of a message
 
   unfoldable pub settings_at : List Token → Read Line
-  settings_at ts = setting_at keywords.Option ts <|> (setting_at keywords.Reserved ts <|> setting_at keywords.Extensions ts)
+  settings_at ts =
+      setting_at keywords.Option ts <|> (setting_at keywords.Reserved ts <|> setting_at keywords.Extensions ts)
 
   -- `oneof name { .. }`
   unfoldable pub oneof_at : List Token → Read Line
@@ -107,8 +111,8 @@ module _ (text : Spelling) where
 
   -- what follows `map < word , word >`
   unfoldable pub past_map : List Token → Option (List Token)
-  past_map ts = after_word text keywords.Map ts >>= λ a. after_sign 60 a >>= λ b. word_at b >>= λ x. after_sign 44 x.1 >>= λ c.
-      word_at c >>= λ y. after_sign 62 y.1
+  past_map ts = after_word text keywords.Map ts >>= λ a. after_sign 60 a >>= λ b. word_at b
+      >>= λ x. after_sign 44 x.1 >>= λ c. word_at c >>= λ y. after_sign 62 y.1
 
   -- a map: that, a member, and `;`
   unfoldable pub map_at : List Token → Read Line
@@ -116,7 +120,8 @@ module _ (text : Spelling) where
 
   -- a word for a type, a member, and `;`
   unfoldable pub field_at : Bool → List Token → Read Line
-  field_at repeated ts = word_at ts >>= λ w. member_at w.1 >>= λ x. ended (lines.Field (record { repeated = repeated; word = w.0; member = x.0 })) x.1
+  field_at repeated ts = word_at ts >>= λ w. member_at w.1
+      >>= λ x. ended (lines.Field (record { repeated = repeated; word = w.0; member = x.0 })) x.1
 
   -- this word, for a label
   unfoldable pub label_is : Keyword → Bool → List Token → Read Bool
@@ -124,7 +129,8 @@ module _ (text : Spelling) where
 
   -- a label: whether it is `repeated`
   unfoldable pub label_at : List Token → Read Bool
-  label_at ts = label_is keywords.Repeated true ts <|> (label_is keywords.Optional false ts <|> label_is keywords.Required false ts)
+  label_at ts = label_is keywords.Repeated true ts
+      <|> (label_is keywords.Optional false ts <|> label_is keywords.Required false ts)
 
   unfoldable pub labelled_group_at : List Token → Read Line
   labelled_group_at ts = label_at ts >>= λ x. group_at x.1

@@ -1,4 +1,10 @@
 -- what the public contracts rest on
+pub mod Names
+pub mod Scalars
+pub mod Lookup
+pub mod Faults
+pub mod Fields
+pub mod Types
 pub mod Keywords
 pub mod Reading
 pub mod Brackets

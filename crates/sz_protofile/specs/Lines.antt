@@ -48,13 +48,15 @@ pub record IsStuckAt (text : Spelling) (tokens : List Token) (p : Place) : Type 
 -- the bytes have no tokens, by the byte at p; or the tokens have no lines, by the token at p
 pub data IsRefused (bytes : List ℕ) (p : Place) : Type 0 where
   no_tokens : tokens_of bytes ≡ Err p → IsRefused bytes p
-  no_lines : (tokens : List Token) → tokens_of bytes ≡ Ok tokens → IsStuckAt (lexeme_of bytes) tokens p → IsRefused bytes p
+  no_lines : (tokens : List Token) → tokens_of bytes ≡ Ok tokens → IsStuckAt (lexeme_of bytes) tokens p
+      → IsRefused bytes p
 
 -- memory ran out, or the place of the refusal is such
 abbrev pub OrNoMemory : FileError → (Place → Type 0) → Type 0
 OrNoMemory (errors.Syntax p) P = P p
 OrNoMemory errors.NoMemory P = Unit {0}
 
--- where the part of the file begins that a token belongs to, if so many messages are open before it, of which the outermost begins at p
+-- where the part of the file begins that a token belongs to, if so many messages are open before it, of which the
+-- outermost begins at p
 abbrev pub place_in : ℕ → Place → Token → Place
 place_in depth p t = if depth == 0 then t.place else p

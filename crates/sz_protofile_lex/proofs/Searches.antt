@@ -41,8 +41,10 @@ module _ (text : List ℕ) (i : ℕ) (star : Bool) (r : Option ℕ)
       → option_map (λ n. (i + 1) + n) (comment_at (get_or text i 0 == 42) (drop (i + 1) text)) ≡ r
   unfolding comment_at
   comment_goes_on lt goes =
-      let e : comment_at star (drop i text) ≡ option_map suc (comment_at (get_or text i 0 == 42) (drop (i + 1) text)) = rw (front_at text i lt, goes) refl in
-      sym (shifted i (comment_at (get_or text i 0 == 42) (drop (i + 1) text))) ∙ sym (ap (option_map (λ n. i + n)) e) ∙ so_far
+      let e : comment_at star (drop i text) ≡ option_map suc
+      (comment_at (get_or text i 0 == 42) (drop (i + 1) text)) = rw (front_at text i lt, goes) refl in
+      sym (shifted i (comment_at (get_or text i 0 == 42) (drop (i + 1) text)))
+      ∙ sym (ap (option_map (λ n. i + n)) e) ∙ so_far
 
   pub comment_is_open : length text ≤ i → None ≡ r
   unfolding comment_at
@@ -52,7 +54,8 @@ module _ (text : List ℕ) (i : ℕ) (star : Bool) (r : Option ℕ)
 
 -- ---- strings
 
-pub quoted_starts : (quote : ℕ) (text : List ℕ) → option_map (λ n. 0 + n) (quoted_at quote false (drop 0 text)) ≡ quoted_at quote false text
+pub quoted_starts : (quote : ℕ) (text : List ℕ)
+    → option_map (λ n. 0 + n) (quoted_at quote false (drop 0 text)) ≡ quoted_at quote false text
 quoted_starts quote text = from_zero (quoted_at quote false text)
 
 module _ (quote : ℕ) (text : List ℕ) (i : ℕ) (escaped : Bool) (r : Option ℕ)
@@ -63,10 +66,12 @@ module _ (quote : ℕ) (text : List ℕ) (i : ℕ) (escaped : Bool) (r : Option 
       let e : quoted_at quote escaped (drop i text) ≡ None = rw (front_at text i lt, newline) refl in
       sym (ap (option_map (λ n. i + n)) e) ∙ so_far
 
-  pub quote_closes : i < length text → (get_or text i 0 ≡ 10 → ⊥) → (not escaped && get_or text i 0 == quote) ≡ true → Some (i + 1) ≡ r
+  pub quote_closes : i < length text → (get_or text i 0 ≡ 10 → ⊥) → (not escaped && get_or text i 0 == quote) ≡ true
+      → Some (i + 1) ≡ r
   unfolding quoted_at
   quote_closes lt other ends =
-      let e : quoted_at quote escaped (drop i text) ≡ Some 1 = rw (front_at text i lt, not_equal (get_or text i 0) 10 other, ends) refl in
+      let e : quoted_at quote escaped (drop i text) ≡ Some 1 =
+      rw (front_at text i lt, not_equal (get_or text i 0) 10 other, ends) refl in
       sym (ap (option_map (λ n. i + n)) e) ∙ so_far
 
   pub quoted_goes_on : i < length text → (get_or text i 0 ≡ 10 → ⊥) → (not escaped && get_or text i 0 == quote) ≡ false
@@ -74,7 +79,8 @@ module _ (quote : ℕ) (text : List ℕ) (i : ℕ) (escaped : Bool) (r : Option 
   unfolding quoted_at
   quoted_goes_on lt other goes =
       let rest = quoted_at quote (not escaped && get_or text i 0 == 92) (drop (i + 1) text) in
-      let e : quoted_at quote escaped (drop i text) ≡ option_map suc rest = rw (front_at text i lt, not_equal (get_or text i 0) 10 other, goes) refl in
+      let e : quoted_at quote escaped (drop i text) ≡ option_map suc rest =
+      rw (front_at text i lt, not_equal (get_or text i 0) 10 other, goes) refl in
       sym (shifted i rest) ∙ sym (ap (option_map (λ n. i + n)) e) ∙ so_far
 
   pub quoted_is_open : length text ≤ i → None ≡ r

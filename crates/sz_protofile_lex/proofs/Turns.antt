@@ -23,8 +23,9 @@ front_at text i lt = rw (add-one, drop-cons text i 0) refl
 abbrev go_on : List ℕ → ℕ → Place → ℕ → Result (List Token) Place
 go_on text i p k = tokens_from k (i + 1) (after (get_or text i 0) p) (drop (i + 1) text)
 
-pub passes : (text : List ℕ) (i k : ℕ) (p : Place) (front : List Token) (r : Result (List Token) Place) → i < length text → 0 < k
-    → with_front front (tokens_from k i p (drop i text)) ≡ r → with_front front (go_on text i p (k - 1)) ≡ r
+pub passes : (text : List ℕ) (i k : ℕ) (p : Place) (front : List Token) (r : Result (List Token) Place)
+    → i < length text → 0 < k → with_front front (tokens_from k i p (drop i text)) ≡ r
+    → with_front front (go_on text i p (k - 1)) ≡ r
 unfolding tokens_from
 passes text i zero p front r lt some so_far = absurd (omega arith)
 passes text i (suc k) p front r lt some so_far =
@@ -33,17 +34,19 @@ passes text i (suc k) p front r lt some so_far =
     rw one (ap (with_front front) (sym e) ∙ so_far)
 
 -- at the front of an item
-at_item : (text : List ℕ) (i : ℕ) (p : Place) → i < length text → tokens_from 0 i p (drop i text) ≡ act i p (item (drop i text)) (go_on text i p)
+at_item : (text : List ℕ) (i : ℕ) (p : Place) → i < length text
+    → tokens_from 0 i p (drop i text) ≡ act i p (item (drop i text)) (go_on text i p)
 unfolding tokens_from
 at_item text i p lt = rw (front_at text i lt) refl
 
-pub gap_passes : (text : List ℕ) (i n : ℕ) (p : Place) (front : List Token) (r : Result (List Token) Place) → i < length text
-    → Gap n ≡ item (drop i text)
+pub gap_passes : (text : List ℕ) (i n : ℕ) (p : Place) (front : List Token) (r : Result (List Token) Place)
+    → i < length text → Gap n ≡ item (drop i text)
     → with_front front (tokens_from 0 i p (drop i text)) ≡ r → with_front front (go_on text i p (n - 1)) ≡ r
 gap_passes text i n p front r lt is so_far =
     ap (with_front front) (ap (λ (x : Item). act i p x (go_on text i p)) is ∙ sym (at_item text i p lt)) ∙ so_far
 
-add_token : (front : List Token) (t : Token) (read : Result (List Token) Place) → with_front (front ++ t ∷ []) read ≡ with_front front (with_token t read)
+add_token : (front : List Token) (t : Token) (read : Result (List Token) Place)
+    → with_front (front ++ t ∷ []) read ≡ with_front front (with_token t read)
 unfolding with_front with_token
 add_token front t (Ok ts) = ap (λ (us : List Token). Ok us) (simp append_assoc)
 add_token front t (Err e) = refl
@@ -56,14 +59,14 @@ token_passes text i n k p front r lt is so_far =
     ∙ ap (with_front front) (ap (λ (x : Item). act i p x (go_on text i p)) is ∙ sym (at_item text i p lt))
     ∙ so_far
 
-pub bad_fails : (text : List ℕ) (i : ℕ) (p : Place) (front : List Token) (r : Result (List Token) Place) → i < length text
-    → Bad ≡ item (drop i text) → with_front front (tokens_from 0 i p (drop i text)) ≡ r → r ≡ Err p
+pub bad_fails : (text : List ℕ) (i : ℕ) (p : Place) (front : List Token) (r : Result (List Token) Place)
+    → i < length text → Bad ≡ item (drop i text) → with_front front (tokens_from 0 i p (drop i text)) ≡ r → r ≡ Err p
 unfolding with_front
 bad_fails text i p front r lt is so_far =
     sym so_far ∙ ap (with_front front) (at_item text i p lt ∙ ap (λ (x : Item). act i p x (go_on text i p)) (sym is))
 
-pub all_passed : (text : List ℕ) (i k : ℕ) (p : Place) (front : List Token) (r : Result (List Token) Place) → length text ≤ i
-    → with_front front (tokens_from k i p (drop i text)) ≡ r → r ≡ Ok front
+pub all_passed : (text : List ℕ) (i k : ℕ) (p : Place) (front : List Token) (r : Result (List Token) Place)
+    → length text ≤ i → with_front front (tokens_from k i p (drop i text)) ≡ r → r ≡ Ok front
 unfolding tokens_from with_front
 all_passed text i k p front r le so_far =
     let e : drop i text ≡ [] = drop_all i text le in

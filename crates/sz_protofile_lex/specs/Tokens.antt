@@ -31,8 +31,8 @@ unfoldable pub comment_at : Bool → List ℕ → Option ℕ
 comment_at star [] = None
 comment_at star (b ∷ bs) = if star && b == 47 then Some 1 else option_map suc (comment_at (b == 42) bs)
 
--- how many bytes there are up to the first of these quotes, and with it, where a \ takes the next byte with it and no newline
--- stands; a \ that takes the first byte stands before them or not
+-- how many bytes there are up to the first of these quotes, and with it, where a \ takes the next byte with it and no
+-- newline stands; a \ that takes the first byte stands before them or not
 unfoldable pub quoted_at : ℕ → Bool → List ℕ → Option ℕ
 quoted_at quote escaped [] = None
 quoted_at quote escaped (b ∷ bs) =
@@ -91,8 +91,8 @@ act at p (Gap n) go = go (n - 1)
 act at p (Lexeme k n) go = with_token (record { kind = k; place = p; start = at; len = n }) (go (n - 1))
 act at p Bad go = Err p
 
--- the tokens of the bytes from this index and place on, of which so many belong to the item before them; or the place of the
--- first byte that begins no item
+-- the tokens of the bytes from this index and place on, of which so many belong to the item before them; or the place
+-- of the first byte that begins no item
 unfoldable pub tokens_from : ℕ → ℕ → Place → List ℕ → Result (List Token) Place
 tokens_from k at p [] = Ok []
 tokens_from (suc k) at p (b ∷ bs) = tokens_from k (at + 1) (after b p) bs

@@ -1,7 +1,7 @@
 -- Hashes of names, by which nearly all names that a file doesn't have are passed over before they are written out.
 use Rattle.std.specs.Prelude.{◌≡◌, ℕ, ◌+◌, ◌*◌, ◌%◌, ◌^◌, List, [], ◌∷◌, ◌++◌, true, Bool, nat_eq, if◌then◌else◌}
 use Rattle.std.specs.List.{list_any, fold}
-use Rattle.sz_protofile_rules.specs.Names.{has_name}
+use Rattle.sz_protofile.specs.Names.{has_name}
 
 -- the hash with a byte more
 abbrev pub hash_with : ℕ → ℕ → ℕ

@@ -2,7 +2,7 @@
 use Rattle.std.specs.Prelude.{None}
 use Rattle.sz_protofile.specs.declared.error.FileError.{FileError}
 use Rattle.sz_protofile.specs.declared.error.FileError.TheVariants as reading
-use Rattle.sz_protofile_rules.specs.declared.fault.Fault.{Fault}
+use Rattle.sz_protofile.specs.declared.fault.Fault.{Fault}
 use Rattle.sz_protofile_names.specs.declared.error.ProtoError.{ProtoError}
 use Rattle.sz_protofile_names.specs.declared.error.ProtoError.TheVariants as errors
 

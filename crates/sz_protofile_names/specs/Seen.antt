@@ -3,8 +3,8 @@ use Rattle.std.specs.Prelude.{[], ◌∷◌, ◌++◌}
 use Rattle.sz_protofile_lex.specs.declared.token.Token.{Token}
 use Rattle.sz_protofile.specs.declared.line.Line.{Line}
 use Rattle.sz_protofile.specs.Reading.{Spelling}
-use Rattle.sz_protofile_rules.specs.Names.{unreserved, called, around_after}
-use Rattle.sz_protofile_rules.specs.Faults as faults
+use Rattle.sz_protofile.specs.Names.{unreserved, called, around_after}
+use Rattle.sz_protofile.specs.Faults as faults
 use Rattle.sz_protofile_names.specs.declared.before.Before.{Before}
 
 abbrev pub seen_before : Before → faults.Before

@@ -1,6 +1,6 @@
 //! What stands before a line of a file.
 ghost use Rattle.std.specs.Prelude.{◌≡◌};
-ghost use Rattle.sz_protofile_rules.specs.Faults.{nothing_before};
+ghost use Rattle.sz_protofile.specs.Faults.{nothing_before};
 ghost use Rattle.sz_protofile_names.specs.Seen.{seen_before};
 
 use crate::members::{FieldNames, FieldNumbers};

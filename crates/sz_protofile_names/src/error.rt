@@ -1,6 +1,6 @@
 //! Why a file is refused.
 use std::alloc::AllocError;
-use sz_protofile_rules::Fault;
+use sz_protofile::Fault;
 use sz_types::{Place, Text};
 
 /// Why a file is refused.

@@ -2,8 +2,8 @@
 ghost use Rattle.std.specs.Prelude.{◌≡◌, ◌++◌, ◌∷◌, [], None as nothing, IfOk, true, not, ◌&&◌};
 ghost use Rattle.std.specs.Option.{option_or};
 ghost use Rattle.std.specs.String.{string_bytes};
-ghost use Rattle.sz_protofile_rules.specs.Names.{spelled, unreserved, called};
-ghost use Rattle.sz_protofile_rules.specs.Faults.{breaks, has_number, name_fault, field_fault, in_range, number_fault, member_fault, type_fault, fault_of, first_fault, file_fault, named, numbered, with_member, with_line, nothing_before};
+ghost use Rattle.sz_protofile.specs.Names.{spelled, unreserved, called};
+ghost use Rattle.sz_protofile.specs.Faults.{breaks, has_number, name_fault, field_fault, in_range, number_fault, member_fault, type_fault, fault_of, first_fault, file_fault, named, numbered, with_member, with_line, nothing_before};
 ghost use Rattle.sz_protofile_names.specs.Seen.{seen_before, with_declared_line, with_around};
 
 use crate::before::Before;
@@ -13,9 +13,8 @@ use crate::names::Names;
 use crate::scopes::{Open, called, full_of, step};
 use crate::words::{scalar_of, spelled, unreserved};
 use std::alloc::Global;
-use sz_protofile::{FieldLine, Line, Member};
+use sz_protofile::{Fault, FieldLine, Line, Member, Scope};
 use sz_protofile_lex::Token;
-use sz_protofile_rules::{Fault, Scope};
 use sz_types::{NoMemory, Text};
 
 // The rule of this number is broken by this token, with the name in it.

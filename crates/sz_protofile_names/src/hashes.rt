@@ -1,7 +1,7 @@
 //! Hashes of names, by which nearly all names that a file doesn't have are passed over before they are written out.
 ghost use Rattle.std.specs.Prelude.{◌≡◌, [], IfOk, OnOk, codes, map};
 ghost use Rattle.std.specs.String.{string_bytes};
-ghost use Rattle.sz_protofile_rules.specs.Names.{put_after};
+ghost use Rattle.sz_protofile.specs.Names.{put_after};
 ghost use Rattle.sz_protofile_names.specs.Hashes.{hash_with, hash_on, hash_of, with_hash, with_hashes};
 
 use indexmap::IndexSet;

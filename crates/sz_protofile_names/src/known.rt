@@ -2,8 +2,8 @@
 ghost use Rattle.std.specs.Prelude.{◌≡◌, ◌<◌, ◌^◌, [], None, IfOk, OnOk, option_copied, option_map};
 ghost use Rattle.std.specs.Option.{option_or};
 ghost use Rattle.std.specs.String.{string_bytes};
-ghost use Rattle.sz_protofile_rules.specs.Names.{spelled, declared_by};
-ghost use Rattle.sz_protofile_rules.specs.Lookup.{known_in, names_in, package_by, package_in, is_first, again_after, with_first};
+ghost use Rattle.sz_protofile.specs.Names.{spelled, declared_by};
+ghost use Rattle.sz_protofile.specs.Lookup.{known_in, names_in, package_by, package_in, is_first, again_after, with_first};
 
 use crate::hashes::Hashes;
 use crate::names::Names;
@@ -11,8 +11,7 @@ use crate::scopes::{Open, declared_by, step};
 use crate::words::spelled;
 use std::alloc::Global;
 use std::marker::Model;
-use sz_protofile::Line;
-use sz_protofile_rules::Scope;
+use sz_protofile::{Line, Scope};
 use sz_types::NoMemory;
 
 /// What a file has for its words to mean: its package, and the full names of its messages and enums, without what only a further message
@@ -36,7 +35,7 @@ impl Drop for Known {
 impl Model for Known {
     ghost use Rattle.std.specs.Prelude.{option_map};
     ghost use Rattle.std.specs.String.{string_bytes};
-    ghost use Rattle.sz_protofile_rules.specs.Lookup.{Known as Facts, known};
+    ghost use Rattle.sz_protofile.specs.Lookup.{Known as Facts, known};
     ghost use Rattle.sz_protofile_names.specs.Hashes.{AreHashed};
 
     ghost Value = { Facts };

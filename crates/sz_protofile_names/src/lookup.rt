@@ -2,9 +2,9 @@
 ghost use Rattle.std.specs.Prelude.{◌≡◌, IfOk, length, codes, option_copied, option_map};
 ghost use Rattle.std.specs.Option.{option_and_then};
 ghost use Rattle.std.specs.String.{string_bytes};
-ghost use Rattle.sz_protofile_rules.specs.Names.{put_after};
+ghost use Rattle.sz_protofile.specs.Names.{put_after};
 ghost use Rattle.sz_protofile_names.specs.Hashes.{AreHashed};
-ghost use Rattle.sz_protofile_rules.specs.Lookup.{found, found_around, found_outwards, from_the_dot, in_package, looked_up};
+ghost use Rattle.sz_protofile.specs.Lookup.{found, found_around, found_outwards, from_the_dot, in_package, looked_up};
 
 use crate::hashes::Hashes;
 use crate::known::Known;

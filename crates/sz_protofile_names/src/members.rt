@@ -1,7 +1,7 @@
 //! Names and numbers of fields, each with the full name of its message, found by hashing.
 ghost use Rattle.std.specs.Prelude.{◌≡◌, [], not, IfOk, if◌then◌else◌, ◌++◌, ◌∷◌};
 ghost use Rattle.std.specs.String.{string_bytes};
-ghost use Rattle.sz_protofile_rules.specs.Faults.{has_field, has_number, named, numbered};
+ghost use Rattle.sz_protofile.specs.Faults.{has_field, has_number, named, numbered};
 
 use indexmap::IndexSet;
 use std::alloc::Global;
@@ -22,7 +22,7 @@ impl Drop for FieldNames {
 impl Model for FieldNames {
     ghost use Rattle.std.specs.Prelude.{List, map};
     ghost use Rattle.std.specs.String.{string_bytes};
-    ghost use Rattle.sz_protofile_rules.specs.Faults.{Named, named};
+    ghost use Rattle.sz_protofile.specs.Faults.{Named, named};
 
     ghost Value = { List Named };
 
@@ -63,7 +63,7 @@ impl Drop for FieldNumbers {
 impl Model for FieldNumbers {
     ghost use Rattle.std.specs.Prelude.{List, map};
     ghost use Rattle.std.specs.String.{string_bytes};
-    ghost use Rattle.sz_protofile_rules.specs.Faults.{Numbered, numbered};
+    ghost use Rattle.sz_protofile.specs.Faults.{Numbered, numbered};
 
     ghost Value = { List Numbered };
 

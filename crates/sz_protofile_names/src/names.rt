@@ -1,8 +1,8 @@
 //! Names, each once, found by hashing.
 ghost use Rattle.std.specs.Prelude.{◌≡◌, [], not, IfOk, ◌∷◌};
 ghost use Rattle.std.specs.String.{string_bytes};
-ghost use Rattle.sz_protofile_rules.specs.Names.{has_name};
-ghost use Rattle.sz_protofile_rules.specs.Lookup.{with_name};
+ghost use Rattle.sz_protofile.specs.Names.{has_name};
+ghost use Rattle.sz_protofile.specs.Lookup.{with_name};
 ghost use Rattle.sz_protofile_names.specs.Hashes.{AreHashed};
 
 use crate::hashes::{Hashes, hashes_of};

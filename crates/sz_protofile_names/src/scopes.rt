@@ -1,14 +1,13 @@
 //! The messages that are open at a line.
 ghost use Rattle.std.specs.Prelude.{◌≡◌, ◌-◌, IfOk, OnOk, length, take, codes};
-ghost use Rattle.sz_protofile_rules.specs.Names.{spelled, innermost, put_after, called, around_after, declared_by};
+ghost use Rattle.sz_protofile.specs.Names.{spelled, innermost, put_after, called, around_after, declared_by};
 ghost use Rattle.sz_protofile_names.specs.Hashes.{hash_of};
 
 use crate::hashes::{hash_of, hash_put_after};
 use crate::words::{put_after, spelled};
 use std::alloc::Global;
 use std::marker::Model;
-use sz_protofile::Line;
-use sz_protofile_rules::Scope;
+use sz_protofile::{Line, Scope};
 use sz_types::{NoMemory, Text};
 
 /// A message that is open. Contracts see what it is called.
@@ -26,7 +25,7 @@ impl Drop for Open {
 
 impl Model for Open {
     ghost use Rattle.std.specs.Prelude.{◌≡◌};
-    ghost use Rattle.sz_protofile_rules.specs.declared.scope.Scope.{Scope as Called};
+    ghost use Rattle.sz_protofile.specs.declared.scope.Scope.{Scope as Called};
     ghost use Rattle.sz_protofile_names.specs.Hashes.{hash_of};
 
     ghost Value = { Called };

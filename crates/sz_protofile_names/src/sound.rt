@@ -1,8 +1,8 @@
 //! Files with which nothing is wrong.
 ghost use Rattle.std.specs.Prelude.{◌≡◌, ◌≤◌, List, length, IfOk, IfErr, MatchResult};
 ghost use Rattle.sz_protofile.specs.declared.line.Line.{Line as Part};
-ghost use Rattle.sz_protofile_rules.specs.declared.fault.Fault.{Fault as Wrong};
-ghost use Rattle.sz_protofile_rules.specs.Types.{IsSound, IsFaulty};
+ghost use Rattle.sz_protofile.specs.declared.fault.Fault.{Fault as Wrong};
+ghost use Rattle.sz_protofile.specs.Types.{IsSound, IsFaulty};
 ghost use Rattle.sz_protofile_names.specs.declared.error.ProtoError.TheVariants.{NoMemory as no_memory};
 ghost use Rattle.sz_protofile_names.specs.Outcome.{OrNoMemory, file_refusal};
 

@@ -3,14 +3,14 @@ ghost use Rattle.std.specs.Prelude.{◌≡◌, IfOk, option_copied};
 ghost use Rattle.std.specs.Option.{is_some};
 ghost use Rattle.std.specs.String.{string_bytes};
 ghost use Rattle.sz_lex.specs.Lookup.{word_of};
-ghost use Rattle.sz_protofile_rules.specs.Names.{spelled, unreserved, put_after};
-ghost use Rattle.sz_protofile_rules.specs.Scalars.{scalar_of};
-ghost use Rattle.sz_protofile_rules.specs.Lookup.{behind};
+ghost use Rattle.sz_protofile.specs.Names.{spelled, unreserved, put_after};
+ghost use Rattle.sz_protofile.specs.Scalars.{scalar_of};
+ghost use Rattle.sz_protofile.specs.Lookup.{behind};
 
 use std::alloc::Global;
 use sz_lex::Word;
+use sz_protofile::Scalar;
 use sz_protofile_lex::{Token, lexeme};
-use sz_protofile_rules::Scalar;
 use sz_types::NoMemory;
 
 // Each reserved word once.

@@ -6,14 +6,14 @@ use Rattle.std.proofs.lemmas.List.Sums.{sum_by-cons}
 use Rattle.sz_types.specs.Data as data_of
 use Rattle.sz_types.specs.Data.{Shape, FieldShape, fields_of}
 use Rattle.sz_types.specs.declared.encoding.Encoding.TheVariants as encodings
-use Rattle.sz_protofile_rules.specs.declared.field.FieldIn.{FieldIn}
-use Rattle.sz_protofile_rules.specs.declared.field.PlainKind.{PlainKind}
-use Rattle.sz_protofile_rules.specs.declared.field.PlainKind.TheVariants as kinds
-use Rattle.sz_protofile_rules.specs.declared.field.Sort.{Sort}
-use Rattle.sz_protofile_rules.specs.declared.field.Sort.TheVariants as sorts
-use Rattle.sz_protofile_rules.specs.Scalars.{shape_of}
-use Rattle.sz_protofile_rules.specs.Types.{field_count, field_counts, most_fields}
-use Rattle.sz_protofile_loops.specs.Ranks.{Ranking, rank}
+use Rattle.sz_protofile.specs.declared.field.FieldIn.{FieldIn}
+use Rattle.sz_protofile.specs.declared.field.PlainKind.{PlainKind}
+use Rattle.sz_protofile.specs.declared.field.PlainKind.TheVariants as kinds
+use Rattle.sz_protofile.specs.declared.field.Sort.{Sort}
+use Rattle.sz_protofile.specs.declared.field.Sort.TheVariants as sorts
+use Rattle.sz_protofile.specs.Scalars.{shape_of}
+use Rattle.sz_protofile.specs.Types.{field_count, field_counts, most_fields}
+use Rattle.sz_protofile_types.specs.Ranks.{Ranking, rank}
 use Rattle.sz_protofile_types.specs.Making.{Made, type_in, added_as, added_by, after_field}
 use Rattle.sz_protofile_types.specs.Holding.{capped, number_as, after_counted}
 
@@ -38,7 +38,8 @@ capped_sum a b = by (cases_lt most_fields a)
   where
     by : (most_fields < a) ⊎ (a ≤ most_fields) → capped (capped a + b) ≡ capped (a + b)
     by (inl l) =
-        ap (λ n. capped (n + b)) (large a l) ∙ large (most_fields + 1 + b) (omega arith) ∙ sym (large (a + b) (omega (arith, l)))
+        ap (λ n. capped (n + b)) (large a l) ∙ large (most_fields + 1 + b) (omega arith)
+        ∙ sym (large (a + b) (omega (arith, l)))
     by (inr l) = ap (λ n. capped (n + b)) (small a l)
 
 pub capped_next : (a b : ℕ) → capped (capped a + (capped b + 1)) ≡ capped (a + (b + 1))
@@ -67,7 +68,8 @@ capped_total f (x ∷ l) =
 
 -- ---- fields of types
 
-counts_append : (a b : List FieldShape) → field_counts (fields_of (a ++ b)) ≡ field_counts (fields_of a) + field_counts (fields_of b)
+counts_append : (a b : List FieldShape)
+    → field_counts (fields_of (a ++ b)) ≡ field_counts (fields_of a) + field_counts (fields_of b)
 counts_append [] b = omega arith
 counts_append (f ∷ a) b = omega (arith, counts_append a b)
 
@@ -84,12 +86,14 @@ repeated_count false s = refl
 
 module _ (r : Ranking) where
   -- a field adds so many fields
-  added_count : (made : Made) (f : FieldIn) (s : Sort) → field_counts (fields_of (added_as r made f s)) ≡ number_as r (λ m. field_count (type_in made m)) f s
+  added_count : (made : Made) (f : FieldIn) (s : Sort)
+      → field_counts (fields_of (added_as r made f s)) ≡ number_as r (λ m. field_count (type_in made m)) f s
   added_count made f sorts.Unkept = refl
   added_count made f (sorts.Kept p) = omega (arith, repeated_count f.repeated (shape_of p.kind), plain_count p.kind)
   added_count made f (sorts.Message m) = by (nat_lt (rank r m) (rank r f.owner))
     where
-      by : (b : Bool) → field_counts (fields_of (cond b (data_of.field f.name (cond f.repeated (data_of.array (type_in made m)) (type_in made m)) f.number encodings.Plain ∷ []) []))
+      by : (b : Bool) → field_counts (fields_of (cond b (data_of.field f.name
+          (cond f.repeated (data_of.array (type_in made m)) (type_in made m)) f.number encodings.Plain ∷ []) []))
           ≡ cond b (field_count (type_in made m) + 1) 0
       by true = omega (arith, repeated_count f.repeated (type_in made m))
       by false = refl
@@ -106,11 +110,12 @@ module _ (r : Ranking) where
 
   -- a field more is counted as it is made
   pub counted_field : (made : Made) (f : FieldIn) (m : List ℕ)
-      → after_counted r (λ n. capped (field_count (type_in made n))) f m ≡ capped (field_count (type_in (after_field r made f) m))
+      → after_counted r (λ n. capped (field_count (type_in made n))) f m
+      ≡ capped (field_count (type_in (after_field r made f) m))
   counted_field made f m = by (bytes_eq f.owner m)
     where
-      by : (b : Bool) → cond b (capped (capped (field_count (type_in made f.owner)) + number_as r (λ n. capped (field_count (type_in made n))) f f.sort))
-          (capped (field_count (type_in made m)))
+      by : (b : Bool) → cond b (capped (capped (field_count (type_in made f.owner)) + number_as r
+          (λ n. capped (field_count (type_in made n))) f f.sort)) (capped (field_count (type_in made m)))
           ≡ capped (field_counts (fields_of (cond b (made f.owner ++ added_by r made f) (made m))))
       by true =
           capped_number (λ n. field_count (type_in made n)) f f.sort (field_count (type_in made f.owner))

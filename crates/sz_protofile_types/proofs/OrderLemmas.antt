@@ -4,9 +4,9 @@ use Rattle.std.specs.List.{filter}
 use Rattle.std.specs.List.Sorted.{ties, IsStableByKey}
 use Rattle.std.specs.Ordering.{nat_cmp, is_lt}
 use Rattle.std.proofs.lemmas.Slice.Eq.{bytes_eq-Decides}
-use Rattle.sz_protofile_rules.specs.declared.field.FieldIn.{FieldIn}
-use Rattle.sz_protofile_rules.specs.declared.field.Sort.TheVariants as sorts
-use Rattle.sz_protofile_loops.specs.Ranks.{Ranking, rank}
+use Rattle.sz_protofile.specs.declared.field.FieldIn.{FieldIn}
+use Rattle.sz_protofile.specs.declared.field.Sort.TheVariants as sorts
+use Rattle.sz_protofile_types.specs.Ranks.{Ranking, rank}
 use Rattle.sz_protofile_types.specs.Making.{stands_in}
 
 -- a number ties with itself
@@ -28,18 +28,20 @@ module _ (r : Ranking) where
 
   its_own : (owner : List ℕ) (f : FieldIn) → stands_in owner f ≡ true → tied owner f ≡ true
   its_own owner f e =
-      ap (λ o. not (is_lt (nat_cmp (rank r owner) (rank r o))) && not (is_lt (nat_cmp (rank r o) (rank r owner)))) ((bytes_eq-Decides f.owner owner).0 e)
-      ∙ ties_itself (rank r owner)
+      ap (λ o. not (is_lt (nat_cmp (rank r owner) (rank r o))) && not (is_lt (nat_cmp (rank r o) (rank r owner))))
+      ((bytes_eq-Decides f.owner owner).0 e) ∙ ties_itself (rank r owner)
 
   -- the fields of a message are among those of its rank
-  kept_alone : (owner : List ℕ) (fields : List FieldIn) → filter (stands_in owner) (filter (tied owner) fields) ≡ filter (stands_in owner) fields
+  kept_alone : (owner : List ℕ) (fields : List FieldIn)
+      → filter (stands_in owner) (filter (tied owner) fields) ≡ filter (stands_in owner) fields
   kept_alone owner [] = refl
   kept_alone owner (f ∷ more) = by (stands_in owner f) refl (kept_alone owner more)
     where
       rest : List FieldIn
       rest = filter (tied owner) more
 
-      dropped : stands_in owner f ≡ false → (t : Bool) → filter (stands_in owner) (cond t (f ∷ rest) rest) ≡ filter (stands_in owner) rest
+      dropped : stands_in owner f ≡ false → (t : Bool)
+          → filter (stands_in owner) (cond t (f ∷ rest) rest) ≡ filter (stands_in owner) rest
       dropped e true = ap (λ b. cond b (f ∷ filter (stands_in owner) rest) (filter (stands_in owner) rest)) e
       dropped e false = refl
 

@@ -1,10 +1,10 @@
 -- What is found decides what a file is answered with.
 use Rattle.std.proofs.Common.{◌≡◌, ℕ, List, Some, None, sym, ap, subst, ◌∙◌, arith}
 use Rattle.sz_protofile.specs.declared.line.Line.{Line}
-use Rattle.sz_protofile_rules.specs.declared.fault.Fault.{Fault}
-use Rattle.sz_protofile_rules.specs.Names.{spelled}
+use Rattle.sz_protofile.specs.declared.fault.Fault.{Fault}
+use Rattle.sz_protofile.specs.Names.{spelled}
 use Rattle.sz_types.specs.Data.{Shape}
-use Rattle.sz_protofile_rules.specs.Types.{TypeShape, AreTypes, named, total, IsSound, HasTypes, IsFaulty, IsRefused, faulty, large, refused_at, first_place}
+use Rattle.sz_protofile.specs.Types.{TypeShape, AreTypes, named, total, IsSound, HasTypes, IsFaulty, IsRefused, faulty, large, refused_at, first_place}
 use Rattle.sz_protofile_names.specs.declared.error.ProtoError.{ProtoError}
 use Rattle.sz_protofile_names.specs.declared.error.ProtoError.TheVariants as errors
 use Rattle.sz_protofile_names.specs.Outcome.{OrNoMemory}
@@ -21,7 +21,8 @@ still_refused bytes errors.NoMemory h = tt
 
 -- ---- a file with these lines
 
-module _ (bytes : List ℕ) (all : List Line) (sound : IsSound bytes all) (only : (other : List Line) → IsSound bytes other → all ≡ other)
+module _ (bytes : List ℕ) (all : List Line) (sound : IsSound bytes all)
+    (only : (other : List Line) → IsSound bytes other → all ≡ other)
     (never : (f : Fault) → IsFaulty bytes f → ⊥) where
   pub has_types : (types : List TypeShape) → AreFound (spelled bytes) all (Some types) → HasTypes bytes types
   has_types types h = record {
@@ -33,17 +34,20 @@ module _ (bytes : List ℕ) (all : List Line) (sound : IsSound bytes all) (only 
     answer_is = h.found.3;
   }
 
-  pub only_types : (types : List TypeShape) → AreFound (spelled bytes) all (Some types) → (other : List TypeShape) → HasTypes bytes other → types ≡ other
+  pub only_types : (types : List TypeShape) → AreFound (spelled bytes) all (Some types) → (other : List TypeShape)
+      → HasTypes bytes other → types ≡ other
   only_types types h other o =
       let lines_are = only o.all o.sound in
       subst (λ (l : List Line). types ≡ named_by l o.types) lines_are
-      (h.found.3 ∙ (h.one h.found.0 o.types h.found.1 (subst (λ (l : List Line). AreTypes (spelled bytes) l o.types) (sym lines_are) o.are)).0)
+      (h.found.3 ∙ (h.one h.found.0 o.types h.found.1
+      (subst (λ (l : List Line). AreTypes (spelled bytes) l o.types) (sym lines_are) o.are)).0)
       ∙ sym o.answer_is
     where
       named_by : List Line → (List ℕ → Shape) → List TypeShape
       named_by l t = named (spelled bytes) l t
 
-  pub not_refused : (types : List TypeShape) → AreFound (spelled bytes) all (Some types) → (f : Fault) → IsRefused bytes f → ⊥
+  pub not_refused : (types : List TypeShape) → AreFound (spelled bytes) all (Some types) → (f : Fault)
+      → IsRefused bytes f → ⊥
   not_refused types h f (faulty g w) = never g w
   not_refused types h f (large other s l) =
       let lines_are = only other s in

@@ -4,7 +4,7 @@ use Rattle.std.proofs.Common.{refl}
 use Rattle.std.specs.Coded.{Coded, code_by, coded_ℕ, coded_list, coded×}
 use Rattle.sz_types.specs.Code.{shape_code}
 use Rattle.sz_types.specs.Data.{Shape}
-use Rattle.sz_protofile_rules.specs.Types.{TypeShape}
+use Rattle.sz_protofile.specs.Types.{TypeShape}
 
 abbrev parts_of : TypeShape → List ℕ × Shape
 parts_of t = (t.name, t.shape)

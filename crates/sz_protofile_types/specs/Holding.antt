@@ -1,15 +1,16 @@
--- What is held while fields are counted and types are made: numbers, and lists of fields, by the full names of messages.
+-- What is held while fields are counted and types are made: numbers, and lists of fields, by the full names of
+-- messages.
 use Rattle.std.specs.Prelude.{ℕ, ◌+◌, List, [], nat_lt, Option, unwrap_or, if◌then◌else◌}
 use Rattle.std.specs.Option.{option_map}
 use Rattle.std.specs.Str.{bytes_eq}
 use Rattle.sz_types.specs.Seen.{seen_fields}
 use Rattle.sz_types.specs.Data.{FieldShape}
 use Rattle.sz_types.specs.declared.ty.Fields.{Fields}
-use Rattle.sz_protofile_rules.specs.declared.field.FieldIn.{FieldIn}
-use Rattle.sz_protofile_rules.specs.declared.field.Sort.{Sort}
-use Rattle.sz_protofile_rules.specs.declared.field.Sort.TheVariants as sorts
-use Rattle.sz_protofile_rules.specs.Types.{most_fields}
-use Rattle.sz_protofile_loops.specs.Ranks.{Ranking, rank}
+use Rattle.sz_protofile.specs.declared.field.FieldIn.{FieldIn}
+use Rattle.sz_protofile.specs.declared.field.Sort.{Sort}
+use Rattle.sz_protofile.specs.declared.field.Sort.TheVariants as sorts
+use Rattle.sz_protofile.specs.Types.{most_fields}
+use Rattle.sz_protofile_types.specs.Ranks.{Ranking, rank}
 
 -- a number of fields; one more than a file may have stands for each larger one
 abbrev pub capped : ℕ → ℕ
@@ -36,4 +37,5 @@ module _ (r : Ranking) where
 
   -- a field more is counted
   abbrev pub after_counted : Numbers → FieldIn → Numbers
-  after_counted numbers f m = if bytes_eq f.owner m then capped (numbers f.owner + number_as numbers f f.sort) else numbers m
+  after_counted numbers f m =
+      if bytes_eq f.owner m then capped (numbers f.owner + number_as numbers f f.sort) else numbers m

@@ -9,15 +9,15 @@ use Rattle.sz_types.specs.Data.{Shape, FieldShape, fields_of}
 use Rattle.sz_types.specs.declared.encoding.Encoding.TheVariants as encodings
 use Rattle.sz_protofile.specs.Reading.{Spelling}
 use Rattle.sz_protofile.specs.declared.line.Line.{Line}
-use Rattle.sz_protofile_rules.specs.declared.field.FieldIn.{FieldIn}
-use Rattle.sz_protofile_rules.specs.declared.field.Sort.{Sort}
-use Rattle.sz_protofile_rules.specs.declared.field.Sort.TheVariants as sorts
-use Rattle.sz_protofile_rules.specs.declared.scope.Scope.{Scope}
-use Rattle.sz_protofile_rules.specs.Names.{unreserved}
-use Rattle.sz_protofile_rules.specs.Scalars.{shape_of}
-use Rattle.sz_protofile_rules.specs.Fields.{as_field}
-use Rattle.sz_protofile_rules.specs.Types.{TypeShape, AreTypes, field_count, total, most_fields, named}
-use Rattle.sz_protofile_loops.specs.Ranks.{Ranking, rank}
+use Rattle.sz_protofile.specs.declared.field.FieldIn.{FieldIn}
+use Rattle.sz_protofile.specs.declared.field.Sort.{Sort}
+use Rattle.sz_protofile.specs.declared.field.Sort.TheVariants as sorts
+use Rattle.sz_protofile.specs.declared.scope.Scope.{Scope}
+use Rattle.sz_protofile.specs.Names.{unreserved}
+use Rattle.sz_protofile.specs.Scalars.{shape_of}
+use Rattle.sz_protofile.specs.Fields.{as_field}
+use Rattle.sz_protofile.specs.Types.{TypeShape, AreTypes, field_count, total, most_fields, named}
+use Rattle.sz_protofile_types.specs.Ranks.{Ranking, rank}
 
 -- whether a field stands in the message of this full name
 abbrev pub stands_in : List ℕ → FieldIn → Bool
@@ -44,7 +44,8 @@ module _ (r : Ranking) where
   abbrev pub added_as : Made → FieldIn → Sort → List FieldShape
   added_as made f sorts.Unkept = []
   added_as made f (sorts.Kept p) = as_field f (shape_of p.kind) p.code ∷ []
-  added_as made f (sorts.Message m) = if nat_lt (rank r m) (rank r f.owner) then as_field f (type_in made m) encodings.Plain ∷ [] else []
+  added_as made f (sorts.Message m) =
+      if nat_lt (rank r m) (rank r f.owner) then as_field f (type_in made m) encodings.Plain ∷ [] else []
 
   abbrev pub added_by : Made → FieldIn → List FieldShape
   added_by made f = added_as made f f.sort
@@ -71,8 +72,10 @@ abbrev pub number_of_fields : (List ℕ → Shape) → List Scope → ℕ
 number_of_fields types messages = sum (map (λ (s : Scope). field_count (types s.full)) messages)
 
 -- the types of these messages, made of fields by rising ranks, or nothing, where they have too many fields together
-pub record AreMadeIfFew (r : Ranking) (ordered : List FieldIn) (messages : List Scope) (answer : Option (List TypeShape)) : Type 0 where
-  pub few : IfSome answer (λ types. (nat_le (number_of_fields (type_in (made_of r ordered)) messages) most_fields ≡ true)
+pub record AreMadeIfFew (r : Ranking) (ordered : List FieldIn) (messages : List Scope)
+    (answer : Option (List TypeShape)) : Type 0 where
+  pub few : IfSome answer
+      (λ types. (nat_le (number_of_fields (type_in (made_of r ordered)) messages) most_fields ≡ true)
       × (types ≡ map (type_named (type_in (made_of r ordered))) messages))
   pub many : IfNone answer (nat_le (number_of_fields (type_in (made_of r ordered)) messages) most_fields ≡ false)
 
@@ -83,7 +86,8 @@ HaveOneType text all = (types others : List ℕ → Shape) → AreTypes text all
 
 -- the types of the file with these lines, or nothing, where these have too many fields together
 pub record AreFound (text : Spelling) (all : List Line) (answer : Option (List TypeShape)) : Type 0 where
-  pub found : IfSome answer (λ named_types. (types : List ℕ → Shape) × (AreTypes text all types) × (total text all types ≤ most_fields)
+  pub found : IfSome answer
+      (λ named_types. (types : List ℕ → Shape) × (AreTypes text all types) × (total text all types ≤ most_fields)
       × (named_types ≡ named text all types))
   pub none : IfNone answer ((types : List ℕ → Shape) → AreTypes text all types → most_fields < total text all types)
   pub one : HaveOneType text all

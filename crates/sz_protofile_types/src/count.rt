@@ -1,15 +1,15 @@
 //! How many fields there are in the types of messages.
 ghost use Rattle.std.specs.Prelude.{◌≡◌, ◌≤◌, ℕ, List, map, sum, IfOk, OnOk, nat_le};
 ghost use Rattle.indexmap.specs.IndexMap.{get_by_text};
-ghost use Rattle.sz_protofile_rules.specs.declared.scope.Scope.{Scope as Called};
-ghost use Rattle.sz_protofile_rules.specs.Types.{field_count, most_fields};
+ghost use Rattle.sz_protofile.specs.declared.scope.Scope.{Scope as Called};
+ghost use Rattle.sz_protofile.specs.Types.{field_count, most_fields};
 ghost use Rattle.sz_protofile_types.specs.Making.{type_in, made_of};
 ghost use Rattle.sz_protofile_types.specs.Holding.{capped, counted, number_as, after_counted};
 
+use crate::Ranks;
 use indexmap::IndexMap;
 use std::alloc::Global;
-use sz_protofile_loops::Ranks;
-use sz_protofile_rules::{FieldIn, Scope, Sort};
+use sz_protofile::{FieldIn, Scope, Sort};
 use sz_types::NoMemory;
 
 // As many fields may the types of a file have together.

@@ -4,18 +4,18 @@ ghost use Rattle.std.specs.Str.{bytes_eq};
 ghost use Rattle.indexmap.specs.IndexMap.{get_by_text};
 ghost use Rattle.sz_types.specs.Data.{array};
 ghost use Rattle.sz_types.specs.Seen.{seen, seen_field};
-ghost use Rattle.sz_protofile_rules.specs.Names.{unreserved};
-ghost use Rattle.sz_protofile_rules.specs.Scalars.{shape_of};
-ghost use Rattle.sz_protofile_rules.specs.Fields.{as_field};
+ghost use Rattle.sz_protofile.specs.Names.{unreserved};
+ghost use Rattle.sz_protofile.specs.Scalars.{shape_of};
+ghost use Rattle.sz_protofile.specs.Fields.{as_field};
 ghost use Rattle.sz_protofile_types.specs.Making.{type_in, made_of, added_by, after_field, type_named};
 ghost use Rattle.sz_protofile_types.specs.Holding.{seen_found};
 
+use crate::Ranks;
 use crate::named::{NamedType, NamedTypes};
 use indexmap::IndexMap;
 use std::alloc::Global;
-use sz_protofile_loops::Ranks;
+use sz_protofile::{FieldIn, PlainKind, Scope, Sort};
 use sz_protofile_names::unreserved;
-use sz_protofile_rules::{FieldIn, PlainKind, Scope, Sort};
 use sz_types::{Encoding, Field, Fields, NoMemory, Text, Ty, copy_fields};
 
 // The fields that were made, by the full names of messages.

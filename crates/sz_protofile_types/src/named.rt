@@ -19,7 +19,7 @@ impl Drop for NamedType {
 
 impl Model for NamedType {
     ghost use Rattle.sz_types.specs.Seen.{seen};
-    ghost use Rattle.sz_protofile_rules.specs.Types.{TypeShape};
+    ghost use Rattle.sz_protofile.specs.Types.{TypeShape};
     ghost use Rattle.sz_protofile_types.specs.Code.{type_code};
 
     ghost Value = { TypeShape };

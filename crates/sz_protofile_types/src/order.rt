@@ -2,8 +2,8 @@
 ghost use Rattle.std.specs.Prelude.{IfOk};
 ghost use Rattle.sz_protofile_types.specs.Making.{IsInOrder};
 
-use sz_protofile_loops::Ranks;
-use sz_protofile_rules::FieldIn;
+use crate::Ranks;
+use sz_protofile::FieldIn;
 use sz_types::NoMemory;
 
 // The fields by rising ranks of the messages in which they stand, of each message in their order.

@@ -2,23 +2,23 @@
 ghost use Rattle.std.specs.Prelude.{◌≡◌, ◌≤◌, List, [], length, IfOk, IfErr, MatchResult};
 ghost use Rattle.sz_protofile.specs.Reading.{Spelling};
 ghost use Rattle.sz_protofile.specs.declared.line.Line.{Line as Part};
-ghost use Rattle.sz_protofile_rules.specs.declared.fault.Fault.{Fault as Wrong};
-ghost use Rattle.sz_protofile_rules.specs.Names.{spelled, messages_in};
-ghost use Rattle.sz_protofile_rules.specs.Types.{TypeShape, all_fields, HasTypes, IsRefused};
+ghost use Rattle.sz_protofile.specs.declared.fault.Fault.{Fault as Wrong};
+ghost use Rattle.sz_protofile.specs.Names.{spelled, messages_in};
+ghost use Rattle.sz_protofile.specs.Types.{TypeShape, all_fields, HasTypes, IsRefused};
 ghost use Rattle.sz_protofile_names.specs.declared.error.ProtoError.TheVariants.{NoMemory as no_memory};
 ghost use Rattle.sz_protofile_names.specs.Outcome.{OrNoMemory};
 ghost use Rattle.sz_protofile_types.specs.Making.{AreMadeIfFew, AreFound};
 
 use crate::count::are_few;
+use crate::fields::all_fields;
 use crate::make::make_types;
+use crate::messages::messages_in;
 use crate::named::NamedTypes;
 use crate::order::in_order;
+use crate::{Ranks, message_ranks};
 use std::alloc::Global;
-use sz_protofile::Line;
-use sz_protofile_fields::{all_fields, messages_in};
-use sz_protofile_loops::{Ranks, message_ranks};
+use sz_protofile::{FieldIn, Line, Scope};
 use sz_protofile_names::{ProtoError, sound_lines};
-use sz_protofile_rules::{FieldIn, Scope};
 use sz_types::{NoMemory, Place};
 
 // The types of these messages, made of their fields by rising ranks, or None where they have too many fields together. These are counted

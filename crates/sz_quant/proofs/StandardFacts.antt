@@ -60,7 +60,8 @@ j_and_i = codes "j" ∷ codes "i" ∷ []
 -- ---- reading order
 
 -- a[i] + b: the whole, a[i], a, i, b
-in_reading_order : parts (binary here ops.Add (element a i) b) ≡ binary here ops.Add (element a i) b ∷ element a i ∷ a ∷ i ∷ b ∷ []
+in_reading_order : parts (binary here ops.Add (element a i) b)
+    ≡ binary here ops.Add (element a i) b ∷ element a i ∷ a ∷ i ∷ b ∷ []
 in_reading_order = refl
 
 -- ---- variables with a bound
@@ -70,11 +71,13 @@ two_arrays : bounds_of i_and_j (binary here ops.Equal (element a i) (element b j
 two_arrays = refl
 
 -- a[i:j] == "ab": both ends have the same bound
-both_ends : bounds_of i_and_j (binary here ops.Equal (from_to a i j) (literal here (string (codes "ab")))) ≡ by_slice a ∷ by_slice a ∷ []
+both_ends : bounds_of i_and_j (binary here ops.Equal (from_to a i j) (literal here (string (codes "ab"))))
+    ≡ by_slice a ∷ by_slice a ∷ []
 both_ends = refl
 
 -- b[i] < b[i + 1]
-neighbours : bounds_of only_i (binary here ops.Less (element b i) (element b (binary here ops.Add i one))) ≡ by_index b ∷ []
+neighbours : bounds_of only_i (binary here ops.Less (element b i) (element b (binary here ops.Add i one)))
+    ≡ by_index b ∷ []
 neighbours = refl
 
 -- a[i] && b[i]: the first that fits
@@ -90,11 +93,13 @@ its_own_name : bounds_of only_i (element (element a i) i) ≡ by_index a ∷ []
 its_own_name = refl
 
 -- a.i[i]: the name of a field names no variable
-a_field : bounds_of only_i (element (field here a (ident (codes "i"))) i) ≡ by_index (field here a (ident (codes "i"))) ∷ []
+a_field : bounds_of only_i (element (field here a (ident (codes "i"))) i)
+    ≡ by_index (field here a (ident (codes "i"))) ∷ []
 a_field = refl
 
 -- a[j] && a[j][i]: a base may name an earlier variable
-an_earlier_variable : bounds_of j_and_i (binary here ops.And (element a j) (element (element a j) i)) ≡ by_index a ∷ by_index (element a j) ∷ []
+an_earlier_variable : bounds_of j_and_i (binary here ops.And (element a j) (element (element a j) i))
+    ≡ by_index a ∷ by_index (element a j) ∷ []
 an_earlier_variable = refl
 
 -- def(a[i]), f(a[i]), {a[i]} and {1: a[i]}
@@ -121,7 +126,8 @@ in_parentheses : bounds_of only_i (element a (paren here i)) ≡ None ∷ []
 in_parentheses = refl
 
 -- a[j] && a[j][i]: a base doesn't name a later variable
-a_later_variable : bounds_of i_and_j (binary here ops.And (element a j) (element (element a j) i)) ≡ None ∷ by_index a ∷ []
+a_later_variable : bounds_of i_and_j (binary here ops.And (element a j) (element (element a j) i))
+    ≡ None ∷ by_index a ∷ []
 a_later_variable = refl
 
 -- i(1)[i]: a call names what it calls

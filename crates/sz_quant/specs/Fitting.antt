@@ -1,4 +1,5 @@
--- Which part of a condition bounds a quantified variable. Variables are a list, the one whose bound is looked for first and then the later ones.
+-- Which part of a condition bounds a quantified variable. Variables are a list, the one whose bound is looked for
+-- first and then the later ones.
 use Rattle.std.specs.Prelude.{ℕ, List, [], ◌∷◌, ◌||◌, Bool, true, false, if◌then◌else◌, Option, Some, None, bytes_eq}
 use Rattle.std.specs.List.{list_any, filter_map, slice_get}
 use Rattle.sz_tree.specs.Expressions.{Exp, named, call, index, slice}
@@ -24,19 +25,22 @@ is_one_of variables (named n) = has_name n.text variables
 is_one_of variables (call n es) = has_name n.text variables
 is_one_of variables e = false
 
--- the expression names one of the variables: some part of it is one, or calls by its name; the name of a field is neither
+-- the expression names one of the variables: some part of it is one, or calls by its name; the name of a field is
+-- neither
 abbrev pub names_one_of : List (List ℕ) → Exp → Bool
 names_one_of variables e = list_any (is_one_of variables) (parts e)
 
 -- the bound with this base, unless that names one of the variables
 abbrev pub unnamed : List (List ℕ) → Exp → Bool → Option BoundForm
-unnamed variables base in_slice = if names_one_of variables base then None else Some (record { base = base; slice = in_slice })
+unnamed variables base in_slice =
+    if names_one_of variables base then None else Some (record { base = base; slice = in_slice })
 
--- the expression as a bound of the first of the variables, where it fits: the variable stands alone as the index or as an end of the
--- slice, and what is indexed or sliced names neither it nor a later variable
+-- the expression as a bound of the first of the variables, where it fits: the variable stands alone as the index or
+-- as an end of the slice, and what is indexed or sliced names neither it nor a later variable
 abbrev pub fit : List (List ℕ) → Exp → Option BoundForm
 fit variables (index p base i) = if is_first variables i then unnamed variables base false else None
-fit variables (slice p base i j) = if is_first variables i || is_first variables j then unnamed variables base true else None
+fit variables (slice p base i j) =
+    if is_first variables i || is_first variables j then unnamed variables base true else None
 fit variables e = None
 
 -- the first of the parts that fits the first of the variables, as its bound

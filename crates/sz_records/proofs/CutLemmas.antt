@@ -12,8 +12,8 @@ use Rattle.sz_records.specs.Steps.{IsCutOn, place_on, IsPassed, Grew, CutsFront}
 use Rattle.sz_records.proofs.StayLemmas.{record_stays}
 
 -- a record in front of a cut
-pub cut_record : (frame : Frame) (limits : FrameLimits) (p n : ℕ) (bytes : List ℕ) (r : List ℕ) (size : ℕ) (rs : List (List ℕ)) (e : Ending)
-    → standing frame limits p n bytes ≡ record_of r size
+pub cut_record : (frame : Frame) (limits : FrameLimits) (p n : ℕ) (bytes : List ℕ) (r : List ℕ) (size : ℕ)
+    (rs : List (List ℕ)) (e : Ending) → standing frame limits p n bytes ≡ record_of r size
     → IsCut frame limits (p + size) (n + 1) (drop size bytes) rs e → IsCut frame limits p n bytes (r ∷ rs) e
 unfolding IsCut
 cut_record frame limits p n bytes r size rs e stood h = rw stood (refl, h)
@@ -32,13 +32,15 @@ cut_end frame limits p n bytes [] e stood h = rw stood h
 cut_end frame limits p n bytes (r ∷ rs) e stood h = rw stood h
 
 -- where further records end: none, after a record, and at the end
-pub place_now : (frame : Frame) (limits : FrameLimits) (p n : ℕ) (bytes : List ℕ) → place_after frame limits p n bytes 0 ≡ p
+pub place_now : (frame : Frame) (limits : FrameLimits) (p n : ℕ) (bytes : List ℕ)
+    → place_after frame limits p n bytes 0 ≡ p
 unfolding place_after
 place_now frame limits p n bytes = refl
 
 pub place_passed : (frame : Frame) (limits : FrameLimits) (p n : ℕ) (bytes : List ℕ) (r : List ℕ) (size count : ℕ)
     → standing frame limits p n bytes ≡ record_of r size
-    → place_after frame limits p n bytes (suc count) ≡ place_after frame limits (p + size) (n + 1) (drop size bytes) count
+    → place_after frame limits p n bytes (suc count)
+    ≡ place_after frame limits (p + size) (n + 1) (drop size bytes) count
 unfolding place_after
 place_passed frame limits p n bytes r size count stood = rw stood refl
 
@@ -48,22 +50,27 @@ unfolding place_after
 place_ended frame limits p n bytes count stood = rw stood refl
 
 -- one place more
-places_more : (place : ℕ → ℕ) (i count : ℕ) → places_of place i (suc count) ≡ places_of place i count ++ place (suc (i + count)) ∷ []
+places_more : (place : ℕ → ℕ) (i count : ℕ)
+    → places_of place i (suc count) ≡ places_of place i count ++ place (suc (i + count)) ∷ []
 places_more place i zero = ap (λ (j : ℕ). place (suc j) ∷ []) (let e : i ≡ i + zero = omega arith in e)
 places_more place i (suc count) =
     ap (λ (l : List ℕ). place (suc i) ∷ l) (places_more place (suc i) count
-    ∙ ap (λ (j : ℕ). places_of place (suc i) count ++ place (suc j) ∷ []) (let e : suc i + count ≡ i + suc count = omega arith in e))
+    ∙ ap (λ (j : ℕ). places_of place (suc i) count ++ place (suc j) ∷ [])
+    (let e : suc i + count ≡ i + suc count = omega arith in e))
 
 -- places by two counts
-pub same_places : (place other : ℕ → ℕ) (i j count : ℕ) → ((k : ℕ) → place (i + k) ≡ other (j + k)) → places_of place i count ≡ places_of other j count
+pub same_places : (place other : ℕ → ℕ) (i j count : ℕ) → ((k : ℕ) → place (i + k) ≡ other (j + k))
+    → places_of place i count ≡ places_of other j count
 same_places place other i j zero same = refl
 same_places place other i j (suc count) same =
     let next : (k : ℕ) → place (suc i + k) ≡ other (suc j + k) =
-    λ k. (let a : suc i + k ≡ i + suc k = omega arith in let b : j + suc k ≡ suc j + k = omega arith in ap place a ∙ same (suc k) ∙ ap other b) in
+    λ k. (let a : suc i + k ≡ i + suc k = omega arith in let b : j + suc k ≡ suc j + k = omega arith in
+    ap place a ∙ same (suc k) ∙ ap other b) in
     let a : suc i ≡ i + 1 = omega arith in
     let b : j + 1 ≡ suc j = omega arith in
     let here : place (suc i) ≡ other (suc j) = ap place a ∙ same 1 ∙ ap other b in
-    ap (λ (p : ℕ). p ∷ places_of place (suc i) count) here ∙ ap (λ (l : List ℕ). other (suc j) ∷ l) (same_places place other (suc i) (suc j) count next)
+    ap (λ (p : ℕ). p ∷ places_of place (suc i) count) here
+    ∙ ap (λ (l : List ℕ). other (suc j) ∷ l) (same_places place other (suc i) (suc j) count next)
 
 -- nothing is cut off so far
 pub begins : (cutter : Cutter) (bytes : List ℕ) (into : RecordsData) → CutsFront cutter cutter bytes bytes into into
@@ -83,7 +90,8 @@ pub passes_on : {old now new : Cutter} {bytes : List ℕ} (at size : ℕ) {befor
 passes_on {old} {now} {new} {bytes} at size {before} {mid} {after} s p = record {
   of = record { frame = p.of.frame ∙ s.of.frame; limits = p.of.limits ∙ s.of.limits };
   given = s.given ++ p.kept ∷ [];
-  gained = ap (λ (x : RecordsData). x.items) p.gained ∙ ap (λ (x : List (List ℕ)). x ++ p.kept ∷ []) s.gained ∙ append_assoc before.items s.given (p.kept ∷ []);
+  gained = ap (λ (x : RecordsData). x.items) p.gained ∙ ap (λ (x : List (List ℕ)). x ++ p.kept ∷ []) s.gained
+      ∙ append_assoc before.items s.given (p.kept ∷ []);
   ends = λ more. (
       let place = place_on old (bytes ++ more) in
       let here : place (suc (0 + length s.given)) ≡ new.place =
@@ -92,8 +100,10 @@ passes_on {old} {now} {new} {bytes} at size {before} {mid} {after} s p = record 
       ∙ place_passed now.frame now.limits now.place now.count (drop at bytes ++ more) p.kept size 0 (stays more)
       ∙ place_now now.frame now.limits (now.place + size) (now.count + 1) (drop size (drop at bytes ++ more))
       ∙ sym p.place in
-      let places : places_of place 0 (length (s.given ++ p.kept ∷ [])) ≡ places_of place 0 (length s.given) ++ new.place ∷ [] =
-      ap (places_of place 0) one_longer ∙ places_more place 0 (length s.given) ∙ ap (λ (e : ℕ). places_of place 0 (length s.given) ++ e ∷ []) here in
+      let places : places_of place 0 (length (s.given ++ p.kept ∷ [])) ≡ places_of place 0 (length s.given)
+      ++ new.place ∷ [] =
+      ap (places_of place 0) one_longer ∙ places_more place 0 (length s.given)
+      ∙ ap (λ (e : ℕ). places_of place 0 (length s.given) ++ e ∷ []) here in
       ap (λ (x : RecordsData). x.ends) p.gained
       ∙ ap (λ (x : List ℕ). x ++ new.place ∷ []) (s.ends more)
       ∙ append_assoc before.ends (places_of place 0 (length s.given)) (new.place ∷ [])
@@ -116,14 +126,17 @@ passes_on {old} {now} {new} {bytes} at size {before} {mid} {after} s p = record 
     one_longer : length (s.given ++ p.kept ∷ []) ≡ suc (length s.given)
     one_longer = omega (arith, length-append s.given (p.kept ∷ []))
 
-    stays : (more : List ℕ) → standing now.frame now.limits now.place now.count (drop at bytes ++ more) ≡ record_of p.kept size
+    stays : (more : List ℕ)
+        → standing now.frame now.limits now.place now.count (drop at bytes ++ more) ≡ record_of p.kept size
     stays more = record_stays now.frame now.limits now.place now.count (drop at bytes) more p.kept size p.stood
 
     left_later : (more : List ℕ) → drop (at + size) bytes ++ more ≡ drop size (drop at bytes ++ more)
-    left_later more = ap (λ (x : List ℕ). x ++ more) (sym (drop-drop size at bytes)) ∙ sym (drop-append-le size (drop at bytes) more p.within)
+    left_later more = ap (λ (x : List ℕ). x ++ more) (sym (drop-drop size at bytes))
+        ∙ sym (drop-append-le size (drop at bytes) more p.within)
 
 -- records were added all along
-pub has_grown : {old now : Cutter} {bytes left : List ℕ} {before mid after : RecordsData} → CutsFront old now bytes left before mid → after ≡ mid → Grew before after
+pub has_grown : {old now : Cutter} {bytes left : List ℕ} {before mid after : RecordsData}
+    → CutsFront old now bytes left before mid → after ≡ mid → Grew before after
 has_grown {old} {now} {bytes} {left} {before} {mid} {after} s e = record {
   added = record { items = s.given; ends = places_of (place_on old (bytes ++ [])) 0 (length s.given) };
   items = ap (λ (x : RecordsData). x.items) e ∙ s.gained;

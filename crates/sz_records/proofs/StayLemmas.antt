@@ -24,7 +24,8 @@ unfolding line_len
 line_len_grows [] b = omega arith
 line_len_grows (x ∷ xs) b = by_test (line_len_grows xs b) (eqb x 10)
   where
-    by_test : line_len xs ≤ line_len (xs ++ b) → (t : Bool) → cond t 0 (suc (line_len xs)) ≤ cond t 0 (suc (line_len (xs ++ b)))
+    by_test : line_len xs ≤ line_len (xs ++ b) → (t : Bool)
+        → cond t 0 (suc (line_len xs)) ≤ cond t 0 (suc (line_len (xs ++ b)))
     by_test more true = omega arith
     by_test more false = omega arith
 
@@ -33,28 +34,33 @@ unfolding line_len
 line_len_stays [] b lt = absurd (omega arith)
 line_len_stays (x ∷ xs) b lt = by_test (λ h. line_len_stays xs b h) (eqb x 10) lt
   where
-    by_test : (line_len xs < length xs → line_len (xs ++ b) ≡ line_len xs) → (t : Bool) → cond t 0 (suc (line_len xs)) < suc (length xs)
+    by_test : (line_len xs < length xs → line_len (xs ++ b) ≡ line_len xs) → (t : Bool)
+        → cond t 0 (suc (line_len xs)) < suc (length xs)
         → cond t 0 (suc (line_len (xs ++ b))) ≡ cond t 0 (suc (line_len xs))
     by_test same true h = refl
     by_test same false h = ap suc (same (omega arith))
 
-chain_stays : (long past there long' past' there' : Bool) (p : ℕ) (found found' : Standing) → IsSettled (by_limits long past there p found)
-    → (long ≡ true → long' ≡ true) → (past ≡ true → past' ≡ true) → (there ≡ true → (there' ≡ true) × (long' ≡ long) × (past' ≡ past) × (found' ≡ found))
+chain_stays : (long past there long' past' there' : Bool) (p : ℕ) (found found' : Standing)
+    → IsSettled (by_limits long past there p found) → (long ≡ true → long' ≡ true) → (past ≡ true → past' ≡ true)
+    → (there ≡ true → (there' ≡ true) × (long' ≡ long) × (past' ≡ past) × (found' ≡ found))
     → by_limits long' past' there' p found' ≡ by_limits long past there p found
 chain_stays true past there long' past' there' p found found' settled l m w = rw (l refl) refl
 chain_stays false true there true past' there' p found found' settled l m w = refl
 chain_stays false true there false past' there' p found found' settled l m w = rw (m refl) refl
-chain_stays false false true long' past' there' p found found' settled l m w = let h = w refl in rw (h.0, h.1, h.2, h.3) refl
+chain_stays false false true long' past' there' p found found' settled l m w = let h = w refl in
+    rw (h.0, h.1, h.2, h.3) refl
 chain_stays false false false long' past' there' p found found' settled l m w = absurd settled
 
-line_stays : (limits : FrameLimits) (p : ℕ) (a b : List ℕ) → IsSettled (line_standing limits p a) → line_standing limits p (a ++ b) ≡ line_standing limits p a
+line_stays : (limits : FrameLimits) (p : ℕ) (a b : List ℕ) → IsSettled (line_standing limits p a)
+    → line_standing limits p (a ++ b) ≡ line_standing limits p a
 unfolding line_standing
 line_stays limits p a b settled =
     let longer : length (a ++ b) ≡ length a + length b = length-append a b in
     let grows = line_len_grows a b in
     chain_stays _ _ _ _ _ _ p _ _ settled
-    (λ e. let h = ltb-true _ _ e in let later : limits.record_bytes < line_len (a ++ b) = omega arith in lt-ltb _ _ later)
-    (λ e. let h = ltb-true _ _ e in let later : limits.input_bytes < p + min (line_len (a ++ b) + 1) (length (a ++ b)) = omega arith in lt-ltb _ _ later)
+    (λ e. let h = ltb-true _ _ e in let later : limits.record_bytes < line_len (a ++ b) = omega arith in
+    lt-ltb _ _ later) (λ e. let h = ltb-true _ _ e in let later : limits.input_bytes
+    < p + min (line_len (a ++ b) + 1) (length (a ++ b)) = omega arith in lt-ltb _ _ later)
     (λ e.
     let lt : line_len a < length a = ltb-true _ _ e in
     let same : line_len (a ++ b) ≡ line_len a = line_len_stays a b lt in
@@ -64,7 +70,8 @@ line_stays limits p a b settled =
     let long : ltb limits.record_bytes (line_len (a ++ b)) ≡ ltb limits.record_bytes (line_len a) = rw same refl in
     let past : ltb limits.input_bytes (p + min (line_len (a ++ b) + 1) (length (a ++ b))) ≡ ltb limits.input_bytes
     (p + min (line_len a + 1) (length a)) = rw (same, room) refl in
-    let found : record_of (take (line_len (a ++ b)) (a ++ b)) (line_len (a ++ b) + 1) ≡ record_of (take (line_len a) a) (line_len a + 1) =
+    let found : record_of (take (line_len (a ++ b)) (a ++ b)) (line_len (a ++ b) + 1)
+    ≡ record_of (take (line_len a) a) (line_len a + 1) =
     rw (same, front) refl in
     (lt-ltb _ _ there, long, past, found))
 
@@ -81,7 +88,8 @@ sized_stays limits p used size a b settled =
     let found : record_of (take size (a ++ b)) (used + size) ≡ record_of (take size a) (used + size) = rw front refl in
     (le-leb _ _ there, refl, refl, found))
 
-length_stays : (limits : FrameLimits) (p : ℕ) (a b : List ℕ) (read : Option (ℕ × List ℕ)) → varint_at a ≡ read → IsSettled (length_standing limits p a read)
+length_stays : (limits : FrameLimits) (p : ℕ) (a b : List ℕ) (read : Option (ℕ × List ℕ)) → varint_at a ≡ read
+    → IsSettled (length_standing limits p a read)
     → length_standing limits p (a ++ b) (varint_at (a ++ b)) ≡ length_standing limits p a read
 unfolding length_standing
 length_stays limits p a b None e settled = by_test (ltb (length a) 10) refl settled
@@ -95,10 +103,12 @@ length_stays limits p a b None e settled = by_test (ltb (length a) 10) refl sett
         rw (varint_stays_none a b le e, later) refl
 length_stays limits p a b (Some read) e settled =
     let more : varint_at (a ++ b) ≡ Some (read.0, read.1 ++ b) = varint_stays a b read.0 read.1 e in
-    let used : length (a ++ b) - length (read.1 ++ b) ≡ length a - length read.1 = omega (arith, length-append a b, length-append read.1 b) in
+    let used : length (a ++ b) - length (read.1 ++ b) ≡ length a - length read.1 =
+    omega (arith, length-append a b, length-append read.1 b) in
     rw (more, used) (sized_stays limits p (length a - length read.1) read.0 read.1 b settled)
 
-frame_stays : (frame : Frame) (limits : FrameLimits) (p : ℕ) (a b : List ℕ) → IsSettled (frame_standing frame limits p a)
+frame_stays : (frame : Frame) (limits : FrameLimits) (p : ℕ) (a b : List ℕ)
+    → IsSettled (frame_standing frame limits p a)
     → frame_standing frame limits p (a ++ b) ≡ frame_standing frame limits p a
 unfolding frame_standing
 frame_stays Lines limits p a b settled = line_stays limits p a b settled
@@ -112,7 +122,8 @@ stays frame limits p n [] b settled = absurd settled
 stays frame limits p n (x ∷ xs) b settled = by_test (ltb n limits.records) settled
   where
     by_test : (t : Bool) → IsSettled (cond t (frame_standing frame limits p (x ∷ xs)) (stopped (Limit p)))
-        → cond t (frame_standing frame limits p (x ∷ xs ++ b)) (stopped (Limit p)) ≡ cond t (frame_standing frame limits p (x ∷ xs)) (stopped (Limit p))
+        → cond t (frame_standing frame limits p (x ∷ xs ++ b)) (stopped (Limit p))
+        ≡ cond t (frame_standing frame limits p (x ∷ xs)) (stopped (Limit p))
     by_test true h = frame_stays frame limits p (x ∷ xs) b h
     by_test false h = refl
 

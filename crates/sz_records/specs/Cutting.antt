@@ -12,7 +12,8 @@ use Rattle.sz_records.specs.declared.limits.FrameLimits.{FrameLimits}
 abbrev pub full : FrameLimits
 full = record { record_bytes = 4194304; records = 2147483648; input_bytes = 2 ^ 40 }
 
--- what stands where a record begins: a record, with the number of bytes that it takes; the ending; or the beginning of a record
+-- what stands where a record begins: a record, with the number of bytes that it takes; the ending; or the beginning
+-- of a record
 pub data Standing : Type 0 where
   record_of : List ℕ → ℕ → Standing
   stopped : Ending → Standing
@@ -26,7 +27,8 @@ line_len (b ∷ bytes) = if b == 10 then 0 else suc (line_len bytes)
 -- where a record would begin at byte p: it is too long, it ends past the input, it is all there, or it is only begun
 abbrev pub by_limits : Bool → Bool → Bool → ℕ → Standing → Standing
 by_limits too_long past_input all_there p found =
-    if too_long then stopped (Limit p) else if past_input then stopped (Limit p) else if all_there then found else unfinished
+    if too_long then stopped (Limit p) else if past_input then stopped (Limit p) else if all_there
+    then found else unfinished
 
 -- what stands at byte p where records are lines; a line takes its byte 10 too, if that is there
 unfoldable pub line_standing : FrameLimits → ℕ → List ℕ → Standing
@@ -57,7 +59,8 @@ frame_standing Delimited limits p bytes = length_standing limits p bytes (varint
 -- what stands at byte p after n records
 unfoldable pub standing : Frame → FrameLimits → ℕ → ℕ → List ℕ → Standing
 standing frame limits p n [] = unfinished
-standing frame limits p n (b ∷ bytes) = if nat_lt n limits.records then frame_standing frame limits p (b ∷ bytes) else stopped (Limit p)
+standing frame limits p n (b ∷ bytes) =
+    if nat_lt n limits.records then frame_standing frame limits p (b ∷ bytes) else stopped (Limit p)
 
 -- the records and the ending of a file that ends after these bytes, which are the beginning of a record
 abbrev pub at_end : Frame → ℕ → List ℕ → List (List ℕ) × Ending
@@ -81,7 +84,8 @@ BeginsWith frame p bytes goes_on first others e unfinished = at_end frame p byte
 unfoldable pub IsCut : Frame → FrameLimits → ℕ → ℕ → List ℕ → List (List ℕ) → Ending → Type 0
 IsCut frame limits p n bytes [] e = EndsHere frame p bytes e (standing frame limits p n bytes)
 IsCut frame limits p n bytes (first ∷ others) e =
-    BeginsWith frame p bytes (λ size. IsCut frame limits (p + size) (n + 1) (drop size bytes) others e) first others e (standing frame limits p n bytes)
+    BeginsWith frame p bytes (λ size. IsCut frame limits (p + size) (n + 1) (drop size bytes) others e) first others e
+    (standing frame limits p n bytes)
 
 -- the way in which the rest of a file is cut
 pub record HasCut (frame : Frame) (limits : FrameLimits) (p n : ℕ) (bytes : List ℕ) : Type 0 where
@@ -89,7 +93,8 @@ pub record HasCut (frame : Frame) (limits : FrameLimits) (p n : ℕ) (bytes : Li
   pub ending : Ending
   pub cut : IsCut frame limits p n bytes records ending
 
--- to which byte a record leads that begins at byte p, where this stands, and further ones as told; a last line leads to the end
+-- to which byte a record leads that begins at byte p, where this stands, and further ones as told; a last line leads
+-- to the end
 abbrev pub leads_to : ℕ → List ℕ → (ℕ → ℕ) → Standing → ℕ
 leads_to p bytes later (record_of r size) = later size
 leads_to p bytes later (stopped why) = p
@@ -99,13 +104,15 @@ leads_to p bytes later unfinished = p + length bytes
 unfoldable pub place_after : Frame → FrameLimits → ℕ → ℕ → List ℕ → ℕ → ℕ
 place_after frame limits p n bytes zero = p
 place_after frame limits p n bytes (suc count) =
-    leads_to p bytes (λ size. place_after frame limits (p + size) (n + 1) (drop size bytes) count) (standing frame limits p n bytes)
+    leads_to p bytes (λ size. place_after frame limits (p + size) (n + 1) (drop size bytes) count)
+    (standing frame limits p n bytes)
 
 -- the places to which further records lead, where i records lead to the place of i
 abbrev pub places_of : (ℕ → ℕ) → ℕ → ℕ → List ℕ
 places_of place i zero = []
 places_of place i (suc count) = place (suc i) ∷ places_of place (suc i) count
 
--- where so many records of what stands behind byte p and n records of a file end, from record i of them on, counted from 0
+-- where so many records of what stands behind byte p and n records of a file end, from record i of them on, counted
+-- from 0
 abbrev pub ends_in : ℕ → ℕ → Frame → FrameLimits → List ℕ → ℕ → ℕ → List ℕ
 ends_in p n frame limits bytes i count = places_of (place_after frame limits p n bytes) i count

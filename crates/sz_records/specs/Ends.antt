@@ -1,9 +1,10 @@
--- What contracts see of records: their bytes lie in one list, and each ends where the next one begins. What lies between two records in their file isn't kept.
+-- What contracts see of records: their bytes lie in one list, and each ends where the next one begins. What lies
+-- between two records in their file isn't kept.
 use Rattle.std.specs.Prelude.{◌≡◌, ℕ, suc, ◌+◌, ◌-◌, ◌*◌, ◌^◌, ◌<◌, ◌≤◌, List, [], ◌∷◌, ◌++◌, length, take, drop, get_or}
 use Rattle.std.specs.List.{slice_range}
 
--- What a contract sees of records: the bytes of each, and where each ends in its file. An end is the place just after the record, a line's newline
--- included, counted from the file's first byte as 0
+-- What a contract sees of records: the bytes of each, and where each ends in its file. An end is the place just after
+-- the record, a line's newline included, counted from the file's first byte as 0
 pub record RecordsData : Type 0 where
   pub items : List (List ℕ)
   pub ends : List ℕ
@@ -34,8 +35,8 @@ abbrev pub AreEnds : ℕ → List ℕ → ℕ → Type 0
 AreEnds from [] len = from ≡ len
 AreEnds from (end ∷ ends) len = (from ≤ end) × AreEnds end ends len
 
--- Where records end in their file that end at these places of the buffer, after k others: the first of all begins at byte `from`, each
--- follows the one before, and takes so many bytes besides its own
+-- Where records end in their file that end at these places of the buffer, after k others: the first of all begins at
+-- byte `from`, each follows the one before, and takes so many bytes besides its own
 abbrev pub laid_ends : ℕ → ℕ → ℕ → List ℕ → List ℕ
 laid_ends from more k [] = []
 laid_ends from more k (end ∷ ends) = (from + end + more * suc k) ∷ laid_ends from more (suc k) ends

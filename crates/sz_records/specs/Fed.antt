@@ -15,7 +15,8 @@ pub record FramerData : Type 0 where
   pub pending : List ℕ
   pub ended : Option Ending
 
--- these are the bytes of the rest of the file: after those that are kept back they are cut so, or nothing is cut any more
+-- these are the bytes of the rest of the file: after those that are kept back they are cut so, or nothing is cut any
+-- more
 abbrev pub IsCutAfter : Cutter → List ℕ → Option Ending → List ℕ → List (List ℕ) → Ending → Type 0
 IsCutAfter cutter pending None more rs e = IsCutOn cutter (pending ++ more) rs e
 IsCutAfter cutter pending (Some why) more rs e = (rs ≡ []) × (e ≡ why)
@@ -28,17 +29,21 @@ IsCutBy framer more rs e = IsCutAfter framer.cutter framer.pending framer.ended 
 abbrev pub IsOpen : FramerData → Type 0
 IsOpen framer = framer.ended ≡ None → stands framer.cutter framer.pending ≡ unfinished
 
--- The framer was fed these bytes of a file, those behind byte p and n records, and gave these records: however the file goes on, what is still cut of
--- it goes on that. Until the ending is known, the bytes that are kept back are those after the place where the next record begins, and further records
--- end where they do after these; a file isn't whole before its end
-pub record HasReadBehind (p n : ℕ) (frame : Frame) (limits : FrameLimits) (framer : FramerData) (fed : List ℕ) (given : List (List ℕ)) : Type 0 where
+-- The framer was fed these bytes of a file, those behind byte p and n records, and gave these records: however the
+-- file goes on, what is still cut of it goes on that. Until the ending is known, the bytes that are kept back are
+-- those after the place where the next record begins, and further records end where they do after these; a file isn't
+-- whole before its end
+pub record HasReadBehind (p n : ℕ) (frame : Frame) (limits : FrameLimits) (framer : FramerData) (fed : List ℕ)
+    (given : List (List ℕ)) : Type 0 where
   pub within : p ≤ limits.input_bytes
-  pub goes_on : (more : List ℕ) (rs : List (List ℕ)) (e : Ending) → IsCutBy framer more rs e → IsCut frame limits p n (fed ++ more) (given ++ rs) e
+  pub goes_on : (more : List ℕ) (rs : List (List ℕ)) (e : Ending) → IsCutBy framer more rs e
+      → IsCut frame limits p n (fed ++ more) (given ++ rs) e
   pub nothing_whole : IsOpen framer
   pub same_limits : framer.cutter.limits ≡ limits
   pub reached : framer.ended ≡ None → framer.cutter.place + length framer.pending ≡ p + length fed
   pub later : framer.ended ≡ None → (more : List ℕ) (count : ℕ)
-      → place_after frame limits p n (fed ++ more) (length given + count) ≡ place_on framer.cutter (framer.pending ++ more) count
+      → place_after frame limits p n (fed ++ more) (length given + count)
+      ≡ place_on framer.cutter (framer.pending ++ more) count
   pub early : framer.ended ≢ Some Whole
 
 -- the same of a whole file
@@ -53,9 +58,10 @@ Fixes p n frame limits fed given e = (more : List ℕ) → IsCut frame limits p 
 abbrev pub EndsSo : ℕ → ℕ → Frame → FrameLimits → List ℕ → Ending → Type 0
 EndsSo p n frame limits fed e = (more : List ℕ) → (rs : List (List ℕ)) × IsCut frame limits p n (fed ++ more) rs e
 
--- A piece was fed, and records were added: the records of a file whose bytes so far are those and the piece. An ending is answered exactly
--- where those bytes fix one
-pub record Adds (p n : ℕ) (frame : Frame) (limits : FrameLimits) (framer : FramerData) (fed : List ℕ) (given before after : List (List ℕ))
+-- A piece was fed, and records were added: the records of a file whose bytes so far are those and the piece. An
+-- ending is answered exactly where those bytes fix one
+pub record Adds (p n : ℕ) (frame : Frame) (limits : FrameLimits) (framer : FramerData) (fed : List ℕ)
+    (given before after : List (List ℕ))
     (ended : Option Ending) : Type 0 where
   pub added : List (List ℕ)
   pub gained : after ≡ before ++ added
@@ -65,21 +71,25 @@ pub record Adds (p n : ℕ) (frame : Frame) (limits : FrameLimits) (framer : Fra
 
 -- the piece is read, whatever was read before it
 abbrev pub Feeds : FramerData → FramerData → List ℕ → List (List ℕ) → List (List ℕ) → Option Ending → Type 0
-Feeds old new piece before after ended = (p n : ℕ) (frame : Frame) (limits : FrameLimits) (fed : List ℕ) (given : List (List ℕ))
+Feeds old new piece before after ended =
+    (p n : ℕ) (frame : Frame) (limits : FrameLimits) (fed : List ℕ) (given : List (List ℕ))
     → HasReadBehind p n frame limits old fed given → Adds p n frame limits new (fed ++ piece) given before after ended
 
 -- the records that came now end in this file where those from record i on do, counted from 0
 abbrev pub EndSo : ℕ → ℕ → Frame → FrameLimits → List ℕ → ℕ → RecordsData → RecordsData → Type 0
-EndSo p n frame limits file i before after = after.ends ≡ before.ends ++ ends_in p n frame limits file i (length after.items - length before.items)
+EndSo p n frame limits file i before after =
+    after.ends ≡ before.ends ++ ends_in p n frame limits file i (length after.items - length before.items)
 
 -- the records that came with the piece end where they do in each file that so begins
 abbrev pub EndAsFed : FramerData → List ℕ → RecordsData → RecordsData → Type 0
-EndAsFed old piece before after = (p n : ℕ) (frame : Frame) (limits : FrameLimits) (fed : List ℕ) (given : List (List ℕ))
+EndAsFed old piece before after =
+    (p n : ℕ) (frame : Frame) (limits : FrameLimits) (fed : List ℕ) (given : List (List ℕ))
     → HasReadBehind p n frame limits old fed given
     → (more : List ℕ) → EndSo p n frame limits (fed ++ piece ++ more) (length given) before after
 
 -- the file ends here: the records that were given before and now are its records, with this ending
-pub record Closes (p n : ℕ) (frame : Frame) (limits : FrameLimits) (file : List ℕ) (given before after : List (List ℕ)) (e : Ending) : Type 0 where
+pub record Closes (p n : ℕ) (frame : Frame) (limits : FrameLimits) (file : List ℕ)
+    (given before after : List (List ℕ)) (e : Ending) : Type 0 where
   pub added : List (List ℕ)
   pub gained : after ≡ before ++ added
   pub cut : IsCut frame limits p n file (given ++ added) e

@@ -10,8 +10,8 @@ bytes_in rs = sum_by length rs
 abbrev pub IsFull : ℕ → List (List ℕ) → Type 0
 IsFull most rs = (most ≤ length rs) ⊎ (2 ^ 24 ≤ bytes_in rs)
 
--- The first n of these records are a shard: the shortest front that is full, or all records where no front is. The record that makes
--- it full is its last one
+-- The first n of these records are a shard: the shortest front that is full, or all records where no front is. The
+-- record that makes it full is its last one
 pub record IsShard (most : ℕ) (rs : List (List ℕ)) (n : ℕ) : Type 0 where
   pub some : 0 < n
   pub within : n ≤ length rs
@@ -25,7 +25,8 @@ AreShards most rs (n ∷ ns) = IsShard most rs n × AreShards most (drop n rs) n
 
 -- records are cut into shards in one way
 abbrev pub ShardsAreUnique : Type 0
-ShardsAreUnique = (most : ℕ) (rs : List (List ℕ)) (ns ms : List ℕ) → AreShards most rs ns → AreShards most rs ms → ns ≡ ms
+ShardsAreUnique = (most : ℕ) (rs : List (List ℕ)) (ns ms : List ℕ) → AreShards most rs ns
+    → AreShards most rs ms → ns ≡ ms
 
 -- the records from one place to another are a shard, whatever records are still to come. At the end there are no more
 pub record EndsShard (rs : List (List ℕ)) (from most : ℕ) (at_end : Bool) (end : ℕ) : Type 0 where

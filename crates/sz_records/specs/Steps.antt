@@ -64,18 +64,22 @@ abbrev pub IsLeft : Cutter → List ℕ → Option Ending → Type 0
 IsLeft cutter left None = stands cutter left ≡ unfinished
 IsLeft cutter left (Some e) = stands cutter left ≡ stopped e
 
--- Records were cut off the front of these bytes, and this is left: whatever comes after, the cut of what is left goes on that of all, and
--- further records end where they do after what is left. The bytes that are cut off are those between the places
+-- Records were cut off the front of these bytes, and this is left: whatever comes after, the cut of what is left goes
+-- on that of all, and further records end where they do after what is left. The bytes that are cut off are those
+-- between the places
 pub record CutsFront (old new : Cutter) (bytes left : List ℕ) (before after : RecordsData) : Type 0 where
   pub of : IsOf old new
   pub given : List (List ℕ)
   pub gained : after.items ≡ before.items ++ given
   pub ends : (more : List ℕ) → after.ends ≡ before.ends ++ places_of (place_on old (bytes ++ more)) 0 (length given)
   pub passed : new.place + length left ≡ old.place + length bytes
-  pub goes_on : (more : List ℕ) (rs : List (List ℕ)) (e : Ending) → IsCutOn new (left ++ more) rs e → IsCutOn old (bytes ++ more) (given ++ rs) e
-  pub later : (more : List ℕ) (count : ℕ) → place_on old (bytes ++ more) (length given + count) ≡ place_on new (left ++ more) count
+  pub goes_on : (more : List ℕ) (rs : List (List ℕ)) (e : Ending) → IsCutOn new (left ++ more) rs e
+      → IsCutOn old (bytes ++ more) (given ++ rs) e
+  pub later : (more : List ℕ) (count : ℕ)
+      → place_on old (bytes ++ more) (length given + count) ≡ place_on new (left ++ more) count
 
 -- as many records were cut off as are whole, and this ending is known then
-pub record CutsOff (old new : Cutter) (bytes left : List ℕ) (before after : RecordsData) (ending : Option Ending) : Type 0 where
+pub record CutsOff (old new : Cutter) (bytes left : List ℕ) (before after : RecordsData)
+    (ending : Option Ending) : Type 0 where
   pub front : CutsFront old new bytes left before after
   pub over : IsLeft new left ending

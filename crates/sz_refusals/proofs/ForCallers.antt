@@ -14,8 +14,8 @@ use Rattle.sz_refusals.specs.Refusing.{judged_so}
 use Rattle.sz_refusals.specs.Texts.{HasStuckTokens, HasStatements}
 
 -- tokens that are stuck are those of the text
-pub has_stuck_tokens : (text : List ℕ) (tokens : Lexed) (q : Place) → HasTokens text tokens.tokens → tokens.text ≡ text → IsStuck tokens q
-    → HasStuckTokens text q
+pub has_stuck_tokens : (text : List ℕ) (tokens : Lexed) (q : Place) → HasTokens text tokens.tokens
+    → tokens.text ≡ text → IsStuck tokens q → HasStuckTokens text q
 has_stuck_tokens text tokens q has is h = record {
   tokens = tokens.tokens;
   has = has;
@@ -23,8 +23,8 @@ has_stuck_tokens text tokens q has is h = record {
 }
 
 -- tokens that spell statements are those of the text
-pub has_statements : (text : List ℕ) (tokens : Lexed) (ss : Stms) → HasTokens text tokens.tokens → tokens.text ≡ text → Spells tokens ss
-    → HasStatements text ss
+pub has_statements : (text : List ℕ) (tokens : Lexed) (ss : Stms) → HasTokens text tokens.tokens → tokens.text ≡ text
+    → Spells tokens ss → HasStatements text ss
 has_statements text tokens ss has is h = record {
   tokens = tokens.tokens;
   has = has;
@@ -37,10 +37,12 @@ IsRefusedAs number p name judged =
     (cause : Cause) × (number ≡ number_of cause) × (judged ≡ Err (record { cause = cause; place = p; name = name }))
 
 -- a tree that is refused has the number of a cause, and is refused for it
-pub is_number : (number : ℕ) (p : Place) (name : Option (List ℕ)) (judged : Judged Core) → IsRefusedAs number p name judged → IsNumber number
+pub is_number : (number : ℕ) (p : Place) (name : Option (List ℕ)) (judged : Judged Core)
+    → IsRefusedAs number p name judged → IsNumber number
 is_number number p name judged h = (h.0, h.1)
 
-pub refused_tree : (number : ℕ) (p : Place) (name : Option (List ℕ)) (judged : Judged Core) (cause : Cause) → IsRefusedAs number p name judged
-    → ((c : Cause) → number ≡ number_of c → cause ≡ c) → judged_so judged ≡ Err (record { cause = cause; place = p; name = name })
+pub refused_tree : (number : ℕ) (p : Place) (name : Option (List ℕ)) (judged : Judged Core) (cause : Cause)
+    → IsRefusedAs number p name judged → ((c : Cause) → number ≡ number_of c → cause ≡ c)
+    → judged_so judged ≡ Err (record { cause = cause; place = p; name = name })
 refused_tree number p name judged cause h only =
     ap judged_so h.2 ∙ ap (λ (c : Cause). Err (record { cause = c; place = p; name = name })) (sym (only h.0 h.1))

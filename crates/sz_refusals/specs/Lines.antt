@@ -15,4 +15,5 @@ place_text place = decimal place.line ++ (codes ":" ++ decimal place.column)
 
 -- the line that says why a program is refused, and where
 abbrev pub refusal_line : Refusal → List ℕ
-refusal_line r = codes "program: " ++ (text_of r.cause ++ (name_text r.name ++ (codes " at " ++ (place_text r.place ++ 10 ∷ []))))
+refusal_line r =
+    codes "program: " ++ (text_of r.cause ++ (name_text r.name ++ (codes " at " ++ (place_text r.place ++ 10 ∷ []))))

@@ -28,8 +28,9 @@ pub record HasStatements (text : List ℕ) (statements : Stms) : Type 0 where
   pub has : HasTokens text tokens
   pub spells : Spells (record { text = text; tokens = tokens }) statements
 
--- The text can't be read, for a cause at a place. It has one such cause at the most: the length is asked first, then whether it is UTF-8; then the first
--- byte or literal from the left that makes no token, whichever of the two stands there; and then the first statement that isn't one
+-- The text can't be read, for a cause at a place. It has one such cause at the most: the length is asked first, then
+-- whether it is UTF-8; then the first byte or literal from the left that makes no token, whichever of the two stands
+-- there; and then the first statement that isn't one
 abbrev pub IsUnreadable : List ℕ → Cause → Place → Type 0
 IsUnreadable text TooLong place = (most_program_bytes < length text) × (place ≡ first_place)
 IsUnreadable text NotUtf8 place = IsShort text × HasNotUtf8 text place

@@ -6,15 +6,15 @@ use Rattle.sz_mean.specs.Marked.{all_tables}
 use Rattle.sz_tabs.specs.Data.{EmitDatum}
 use Rattle.sz_attempt.specs.declared.job.Job.{Job}
 use Rattle.sz_attempt.specs.Shards.{IsJob}
-use Rattle.sz_rounds.specs.Outcomes.{emitted, outcome_from}
-use Rattle.sz_rounds.specs.Rounds.{shards_of, IsRound}
+use Rattle.sz_workers.specs.Outcomes.{emitted, outcome_from}
+use Rattle.sz_workers.specs.Rounds.{shards_of, IsRound}
 use Rattle.sz_disk.specs.Crashes.{Images, are_told}
-use Rattle.sz_gates.specs.Crashing.{Rests, LeavesOnly}
-use Rattle.sz_gates.proofs.ForCallers.{leaves_if}
-use Rattle.sz_journal_format.specs.declared.job.JobBytes.{JobBytes}
-use Rattle.sz_journal_format.specs.declared.round.RoundEntry.{RoundEntry}
-use Rattle.sz_journal_format.specs.Rounds.{last_progress, AreRounds}
-use Rattle.sz_journal_rules.specs.Journals.{Spells}
+use Rattle.sz_disk.specs.Crashing.{Rests, LeavesOnly}
+use Rattle.sz_disk.proofs.GateForCallers.{leaves_if}
+use Rattle.sz_journal.specs.declared.job.JobBytes.{JobBytes}
+use Rattle.sz_journal.specs.declared.round.RoundEntry.{RoundEntry}
+use Rattle.sz_journal.specs.Rounds.{last_progress, AreRounds}
+use Rattle.sz_journal.specs.Journals.{Spells}
 use Rattle.sz_journal.specs.declared.journal.Journal.{Journal}
 use Rattle.sz_journal.specs.Journal.{rounds_of, IsOf, CanAppend, KeepsRounds, SpellsOneOf}
 use Rattle.sz_stream.specs.declared.intake.Intake.{Intake}

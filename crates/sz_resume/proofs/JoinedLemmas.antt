@@ -8,11 +8,11 @@ use Rattle.sz_tabs.specs.Data.{EmitDatum}
 use Rattle.sz_save_format.specs.Saved.{SavedState, Saves, most_bound}
 use Rattle.sz_save_format.specs.Laws.{IsOneSpelling}
 use Rattle.sz_save.specs.Saving.{state_of_emits}
-use Rattle.sz_save_laws.specs.Runs.{Run, saved_of, together, JoinsRuns}
-use Rattle.sz_journal_format.specs.declared.job.JobBytes.{JobBytes}
-use Rattle.sz_journal_format.specs.declared.progress.Progress.{Progress}
-use Rattle.sz_journal_format.specs.declared.round.RoundEntry.{RoundEntry}
-use Rattle.sz_journal_format.specs.Rounds.{no_progress, Follow, AreRounds, all_bounds, progress_of}
+use Rattle.sz_merge.specs.Runs.{Run, saved_of, together, JoinsRuns}
+use Rattle.sz_journal.specs.declared.job.JobBytes.{JobBytes}
+use Rattle.sz_journal.specs.declared.progress.Progress.{Progress}
+use Rattle.sz_journal.specs.declared.round.RoundEntry.{RoundEntry}
+use Rattle.sz_journal.specs.Rounds.{no_progress, Follow, AreRounds, all_bounds, progress_of}
 use Rattle.sz_merge.specs.declared.error.MergeError.{MergeError}
 use Rattle.sz_merge.specs.declared.error.MergeError.TheVariants.{BadTables, OtherTables, TablesLimit, NoMemory}
 use Rattle.sz_merge.specs.Together.{AreTogether, bounds_of, HasSameTables, HaveTables, HaveSameTables, CanBeTogether}

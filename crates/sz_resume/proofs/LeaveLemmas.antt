@@ -4,14 +4,14 @@ use Rattle.sz_types.specs.Tables.{Declaration}
 use Rattle.sz_attempt.specs.declared.job.Job.{Job}
 use Rattle.sz_disk.specs.Crashes.{Images, are_told}
 use Rattle.sz_disk.specs.Calls.{AreAmong}
-use Rattle.sz_gates.specs.Crashing.{Rests, LeavesOnly}
-use Rattle.sz_gates.specs.Entries.{with_length, all_opened, IsEmpty}
-use Rattle.sz_gates.proofs.ForCallers.{the_image, leaves_if, leaves_none, leaves_both}
-use Rattle.sz_journal_format.specs.Jobs.{job_bytes}
-use Rattle.sz_journal_format.specs.declared.job.JobBytes.{JobBytes}
-use Rattle.sz_journal_format.specs.declared.round.RoundEntry.{RoundEntry}
-use Rattle.sz_journal_format.specs.Rounds.{round_bytes, no_progress, last_progress}
-use Rattle.sz_journal_rules.specs.Journals.{Spells}
+use Rattle.sz_disk.specs.Crashing.{Rests, LeavesOnly}
+use Rattle.sz_disk.specs.Entries.{with_length, all_opened, IsEmpty}
+use Rattle.sz_disk.proofs.GateForCallers.{the_image, leaves_if, leaves_none, leaves_both}
+use Rattle.sz_journal.specs.Jobs.{job_bytes}
+use Rattle.sz_journal.specs.declared.job.JobBytes.{JobBytes}
+use Rattle.sz_journal.specs.declared.round.RoundEntry.{RoundEntry}
+use Rattle.sz_journal.specs.Rounds.{round_bytes, no_progress, last_progress}
+use Rattle.sz_journal.specs.Journals.{Spells}
 use Rattle.sz_resume.specs.Standing.{Source, Stands}
 use Rattle.sz_resume.specs.Stops.{IsLeft, AreSmall, LeavesRounds, SpellsMore}
 use Rattle.sz_resume.proofs.NumberLemmas.{progress-append, small-append}

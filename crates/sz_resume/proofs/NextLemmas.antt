@@ -13,16 +13,16 @@ use Rattle.sz_records.specs.Cutting.{full, IsCut, place_after, ends_in}
 use Rattle.sz_records.specs.Shards.{AreShards}
 use Rattle.sz_attempt.specs.declared.job.Job.{Job}
 use Rattle.sz_attempt.specs.Shards.{ShardData}
-use Rattle.sz_rounds.specs.Outcomes.{emitted, after_front, outcome_from, all_records}
-use Rattle.sz_rounds.specs.Rounds.{shards_of, numbered}
-use Rattle.sz_rounds.specs.Cuts.{cut_into}
-use Rattle.sz_rounds.proofs.OutcomeLemmas.{after_nothing}
-use Rattle.sz_rounds.proofs.RangeLemmas.{numbered_cut}
-use Rattle.sz_rounds.proofs.RoundLemmas.{length-numbered}
-use Rattle.sz_journal_format.specs.declared.job.JobBytes.{JobBytes}
-use Rattle.sz_journal_format.specs.declared.progress.Progress.{Progress}
-use Rattle.sz_journal_format.specs.declared.round.RoundEntry.{RoundEntry}
-use Rattle.sz_journal_format.specs.Rounds.{progress_of, MayFollow}
+use Rattle.sz_workers.specs.Outcomes.{emitted, after_front, outcome_from, all_records}
+use Rattle.sz_workers.specs.Rounds.{shards_of, numbered}
+use Rattle.sz_workers.specs.Cuts.{cut_into}
+use Rattle.sz_workers.proofs.OutcomeLemmas.{after_nothing}
+use Rattle.sz_workers.proofs.RangeLemmas.{numbered_cut}
+use Rattle.sz_workers.proofs.RoundLemmas.{length-numbered}
+use Rattle.sz_journal.specs.declared.job.JobBytes.{JobBytes}
+use Rattle.sz_journal.specs.declared.progress.Progress.{Progress}
+use Rattle.sz_journal.specs.declared.round.RoundEntry.{RoundEntry}
+use Rattle.sz_journal.specs.Rounds.{progress_of, MayFollow}
 use Rattle.sz_stream.specs.declared.done.Done.{Done}
 use Rattle.sz_stream.specs.declared.intake.Intake.{Intake}
 use Rattle.sz_stream.specs.Inputs.{GoesOn}

@@ -1,11 +1,11 @@
 -- The numbers of rounds, where one more follows.
 use Rattle.std.proofs.Common.{◌≡◌, ℕ, ◌*◌, ◌^◌, ◌≤◌, List, [], ◌∷◌, ◌++◌, refl, ap, ◌∙◌, subst, arith}
 use Rattle.sz_types.specs.Tables.{Declaration}
-use Rattle.sz_journal_format.specs.declared.job.JobBytes.{JobBytes}
-use Rattle.sz_journal_format.specs.declared.progress.Progress.{Progress}
-use Rattle.sz_journal_format.specs.declared.round.RoundEntry.{RoundEntry}
-use Rattle.sz_journal_format.specs.Rounds.{no_progress, progress_of, progress_after, last_progress, MayFollow, AreRounds}
-use Rattle.sz_journal_format.proofs.FollowLemmas.{next_told}
+use Rattle.sz_journal.specs.declared.job.JobBytes.{JobBytes}
+use Rattle.sz_journal.specs.declared.progress.Progress.{Progress}
+use Rattle.sz_journal.specs.declared.round.RoundEntry.{RoundEntry}
+use Rattle.sz_journal.specs.Rounds.{no_progress, progress_of, progress_after, last_progress, MayFollow, AreRounds}
+use Rattle.sz_journal.proofs.FollowLemmas.{next_told}
 use Rattle.sz_resume.specs.Stops.{AreSmall}
 
 -- where the job has come after rounds and others after them

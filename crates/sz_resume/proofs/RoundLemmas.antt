@@ -5,14 +5,14 @@ use Rattle.sz_tabs.specs.Data.{EmitDatum}
 use Rattle.sz_total.specs.States.{TotalState, declarations, emit_count, shown}
 use Rattle.sz_total.specs.Totals.{StandsFor}
 use Rattle.sz_attempt.specs.declared.job.Job.{Job}
-use Rattle.sz_rounds.specs.Outcomes.{emitted, outcome_from, all_records}
-use Rattle.sz_rounds.specs.Rounds.{EndsRound, shards_of}
-use Rattle.sz_rounds.specs.declared.round.RoundEnd.TheVariants as ends
-use Rattle.sz_rounds.proofs.CountLemmas.{few_of_shards}
-use Rattle.sz_journal_format.specs.declared.job.JobBytes.{JobBytes}
-use Rattle.sz_journal_format.specs.declared.progress.Progress.{Progress}
-use Rattle.sz_journal_format.specs.declared.round.RoundEntry.{RoundEntry}
-use Rattle.sz_journal_format.specs.Rounds.{Follow, AreRounds, no_progress, progress_of, progress_after, last_progress}
+use Rattle.sz_workers.specs.Outcomes.{emitted, outcome_from, all_records}
+use Rattle.sz_workers.specs.Rounds.{EndsRound, shards_of}
+use Rattle.sz_workers.specs.declared.round.RoundEnd.TheVariants as ends
+use Rattle.sz_workers.proofs.CountLemmas.{few_of_shards}
+use Rattle.sz_journal.specs.declared.job.JobBytes.{JobBytes}
+use Rattle.sz_journal.specs.declared.progress.Progress.{Progress}
+use Rattle.sz_journal.specs.declared.round.RoundEntry.{RoundEntry}
+use Rattle.sz_journal.specs.Rounds.{Follow, AreRounds, no_progress, progress_of, progress_after, last_progress}
 use Rattle.sz_stream.specs.declared.done.Done.{Done}
 use Rattle.sz_stream.specs.declared.intake.Intake.{Intake}
 use Rattle.sz_stream.specs.Intakes.{CanGoOn, done_with}

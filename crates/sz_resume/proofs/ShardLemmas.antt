@@ -3,8 +3,8 @@ use Rattle.std.proofs.Common.{◌≡◌, ℕ, zero, suc, ◌+◌, ◌≤◌, Lis
 use Rattle.std.proofs.lemmas.List.{drop-drop}
 use Rattle.sz_records.specs.Shards.{AreShards}
 use Rattle.sz_attempt.specs.Shards.{ShardData}
-use Rattle.sz_rounds.specs.Outcomes.{all_records}
-use Rattle.sz_rounds.specs.Cuts.{cut_into}
+use Rattle.sz_workers.specs.Outcomes.{all_records}
+use Rattle.sz_workers.specs.Cuts.{cut_into}
 
 -- after so many shards with so many records stand these
 pub record AreAfter (most number first : ℕ) (records : List (List ℕ)) (sizes : List ℕ) (shards count : ℕ) (back : List ShardData) : Type 0 where

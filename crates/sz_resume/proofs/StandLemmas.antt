@@ -11,12 +11,12 @@ use Rattle.sz_records.specs.Shards.{AreShards}
 use Rattle.sz_records.proofs.CutLemmas.{place_now}
 use Rattle.sz_attempt.specs.declared.job.Job.{Job}
 use Rattle.sz_attempt.specs.Shards.{ShardData}
-use Rattle.sz_rounds.specs.Outcomes.{after_front, then_outcome, outcome_from, all_records}
-use Rattle.sz_rounds.specs.Cuts.{cut_into}
-use Rattle.sz_rounds.proofs.OutcomeLemmas.{after_nothing, later_both, outcome-append}
-use Rattle.sz_journal_format.specs.declared.progress.Progress.{Progress}
-use Rattle.sz_journal_format.specs.declared.round.RoundEntry.{RoundEntry}
-use Rattle.sz_journal_format.specs.Rounds.{no_progress, progress_of, progress_after, all_bounds}
+use Rattle.sz_workers.specs.Outcomes.{after_front, then_outcome, outcome_from, all_records}
+use Rattle.sz_workers.specs.Cuts.{cut_into}
+use Rattle.sz_workers.proofs.OutcomeLemmas.{after_nothing, later_both, outcome-append}
+use Rattle.sz_journal.specs.declared.progress.Progress.{Progress}
+use Rattle.sz_journal.specs.declared.round.RoundEntry.{RoundEntry}
+use Rattle.sz_journal.specs.Rounds.{no_progress, progress_of, progress_after, all_bounds}
 use Rattle.sz_records.specs.Cutting.{full}
 use Rattle.sz_resume.specs.Standing.{Source, place_in, IsRoundOf, AreRoundsOf}
 use Rattle.sz_resume.specs.Entries.{AreSavedOf, all_parts}

@@ -5,9 +5,9 @@ use Rattle.std.specs.Prelude.{Result, Ok, Err}
 use Rattle.sz_mean.specs.Marked.{all_tables}
 use Rattle.sz_save_format.specs.Saved.{SavedState}
 use Rattle.sz_attempt.specs.declared.job.Job.{Job}
-use Rattle.sz_journal_format.specs.declared.job.JobBytes.{JobBytes}
-use Rattle.sz_journal_format.specs.declared.round.RoundEntry.{RoundEntry}
-use Rattle.sz_journal_format.specs.Rounds.{last_progress}
+use Rattle.sz_journal.specs.declared.job.JobBytes.{JobBytes}
+use Rattle.sz_journal.specs.declared.round.RoundEntry.{RoundEntry}
+use Rattle.sz_journal.specs.Rounds.{last_progress}
 use Rattle.sz_journal.specs.declared.journal.Journal.{Journal}
 use Rattle.sz_journal.specs.Journal.{rounds_of}
 use Rattle.sz_stream.specs.declared.done.Done.{Done}

@@ -3,11 +3,11 @@ use Rattle.std.proofs.Common.{◌≡◌, inl, inr, ℕ, List, [], ◌∷◌, ◌
 use Rattle.sz_mean.specs.Marked.{all_tables}
 use Rattle.sz_flat.specs.Spelling.{IsShort}
 use Rattle.sz_attempt.specs.declared.job.Job.{Job}
-use Rattle.sz_gates.specs.Entries.{IsEmpty}
-use Rattle.sz_journal_format.specs.declared.job.JobBytes.{JobBytes}
-use Rattle.sz_journal_format.specs.declared.round.RoundEntry.{RoundEntry}
-use Rattle.sz_journal_rules.specs.Journals.{Spelled}
-use Rattle.sz_journal_rules.specs.Laws.{IsOneStanding}
+use Rattle.sz_disk.specs.Entries.{IsEmpty}
+use Rattle.sz_journal.specs.declared.job.JobBytes.{JobBytes}
+use Rattle.sz_journal.specs.declared.round.RoundEntry.{RoundEntry}
+use Rattle.sz_journal.specs.Journals.{Spelled}
+use Rattle.sz_journal.specs.Laws.{IsOneStanding}
 use Rattle.sz_resume.specs.Standing.{Source, IsFound}
 use Rattle.sz_resume.specs.Stops.{AreFirst, IsLeft, EachIsLeft, last_of, StopsLeaveTheJob}
 use Rattle.sz_resume.proofs.LeaveLemmas.{not_empty}

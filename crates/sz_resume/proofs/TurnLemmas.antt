@@ -18,17 +18,17 @@ use Rattle.sz_records.proofs.ShardLemmas.{shards_are_unique}
 use Rattle.sz_attempt.specs.declared.job.Job.{Job}
 use Rattle.sz_attempt.specs.Shards.{ShardData}
 use Rattle.sz_machine.specs.Ends.{seen_fault}
-use Rattle.sz_rounds.specs.Outcomes.{ShardsEnd, emitted, faulted, lost, after_front, then_outcome, outcome_from, outcome_of}
-use Rattle.sz_rounds.specs.Rounds.{shards_of}
-use Rattle.sz_rounds.specs.Cuts.{cut_into}
-use Rattle.sz_rounds.proofs.OutcomeLemmas.{outcome-append}
+use Rattle.sz_workers.specs.Outcomes.{ShardsEnd, emitted, faulted, lost, after_front, then_outcome, outcome_from, outcome_of}
+use Rattle.sz_workers.specs.Rounds.{shards_of}
+use Rattle.sz_workers.specs.Cuts.{cut_into}
+use Rattle.sz_workers.proofs.OutcomeLemmas.{outcome-append}
 use Rattle.sz_disk.specs.Crashes.{Images}
-use Rattle.sz_gates.specs.Crashing.{Rests}
-use Rattle.sz_journal_format.specs.declared.job.JobBytes.{JobBytes}
-use Rattle.sz_journal_format.specs.declared.progress.Progress.{Progress}
-use Rattle.sz_journal_format.specs.declared.round.RoundEntry.{RoundEntry}
-use Rattle.sz_journal_format.specs.Rounds.{no_progress, progress_of, last_progress, all_bounds}
-use Rattle.sz_journal_rules.specs.Journals.{Spells}
+use Rattle.sz_disk.specs.Crashing.{Rests}
+use Rattle.sz_journal.specs.declared.job.JobBytes.{JobBytes}
+use Rattle.sz_journal.specs.declared.progress.Progress.{Progress}
+use Rattle.sz_journal.specs.declared.round.RoundEntry.{RoundEntry}
+use Rattle.sz_journal.specs.Rounds.{no_progress, progress_of, last_progress, all_bounds}
+use Rattle.sz_journal.specs.Journals.{Spells}
 use Rattle.sz_journal.specs.declared.journal.Journal.{Journal}
 use Rattle.sz_stream.specs.declared.done.Done.{Done}
 use Rattle.sz_stream.specs.declared.intake.Intake.{Intake}

@@ -14,14 +14,14 @@ use Rattle.sz_records.specs.declared.ending.Ending.TheVariants as endings
 use Rattle.sz_io.specs.declared.error.OutsideError.{OutsideError}
 use Rattle.sz_io.specs.declared.error.OutsideError.TheVariants as outside
 use Rattle.sz_disk.specs.Crashes.{Images}
-use Rattle.sz_gates.specs.Crashing.{Rests}
+use Rattle.sz_disk.specs.Crashing.{Rests}
 use Rattle.sz_attempt.specs.declared.job.Job.{Job}
-use Rattle.sz_rounds.specs.declared.round.Round.{Round}
-use Rattle.sz_journal_format.specs.declared.job.JobBytes.{JobBytes}
-use Rattle.sz_journal_format.specs.declared.progress.Progress.{Progress}
-use Rattle.sz_journal_format.specs.declared.round.RoundEntry.{RoundEntry}
-use Rattle.sz_journal_format.specs.Rounds.{no_progress, last_progress}
-use Rattle.sz_journal_rules.specs.Journals.{Spells}
+use Rattle.sz_workers.specs.declared.round.Round.{Round}
+use Rattle.sz_journal.specs.declared.job.JobBytes.{JobBytes}
+use Rattle.sz_journal.specs.declared.progress.Progress.{Progress}
+use Rattle.sz_journal.specs.declared.round.RoundEntry.{RoundEntry}
+use Rattle.sz_journal.specs.Rounds.{no_progress, last_progress}
+use Rattle.sz_journal.specs.Journals.{Spells}
 use Rattle.sz_journal.specs.declared.journal.Journal.{Journal}
 use Rattle.sz_journal.specs.Journal.{rounds_of, KeepsRounds}
 use Rattle.sz_stream.specs.declared.done.Done.{Done}
@@ -169,7 +169,7 @@ module _ {job : Job} {frame : Frame} {most : ℕ} where
 
     pub way_halts : (input : List ℕ) → start ≡ Some (drop (last_progress rounds).bytes input) → (journal : Journal)
         → AllStand job (record { frame = frame; most = most; bytes = input }) rounds → (halt : Halt)
-        → StopsHalt (Rattle.sz_rounds.specs.Outcomes.outcome_from job old.round.passed (Rattle.sz_rounds.specs.Rounds.shards_of old.round)) halt
+        → StopsHalt (Rattle.sz_workers.specs.Outcomes.outcome_from job old.round.passed (Rattle.sz_workers.specs.Rounds.shards_of old.round)) halt
         → RunsSource job journal (record { frame = frame; most = most; bytes = input }) (Err halt)
     way_halts input told journal all halt is =
         halts_source job (record { frame = frame; most = most; bytes = input }) journal rounds all (fresh_of b)

@@ -6,9 +6,9 @@ use Rattle.sz_tabs.specs.Data.{EmitDatum}
 use Rattle.sz_save_format.specs.Saved.{SavedState, CanBeSaved}
 use Rattle.sz_save.specs.Saving.{state_of_emits}
 use Rattle.sz_attempt.specs.declared.job.Job.{Job}
-use Rattle.sz_journal_format.specs.declared.progress.Progress.{Progress}
-use Rattle.sz_journal_format.specs.declared.round.RoundEntry.{RoundEntry}
-use Rattle.sz_journal_format.specs.Rounds.{progress_of, all_bounds}
+use Rattle.sz_journal.specs.declared.progress.Progress.{Progress}
+use Rattle.sz_journal.specs.declared.round.RoundEntry.{RoundEntry}
+use Rattle.sz_journal.specs.Rounds.{progress_of, all_bounds}
 use Rattle.sz_merge.specs.Together.{CanBeTogether}
 use Rattle.sz_merge.specs.Groups.{AreOf}
 use Rattle.sz_stream.specs.declared.done.Done.{Done}

@@ -11,11 +11,11 @@ use Rattle.sz_records.specs.declared.ending.Ending.TheVariants as endings
 use Rattle.sz_records.specs.Cutting.{full, IsCut}
 use Rattle.sz_records.specs.Shards.{AreShards}
 use Rattle.sz_attempt.specs.declared.job.Job.{Job}
-use Rattle.sz_rounds.specs.Outcomes.{ShardsEnd, emitted, faulted, lost, outcome_of}
-use Rattle.sz_rounds.specs.Cuts.{cut_into}
-use Rattle.sz_journal_format.specs.declared.job.JobBytes.{JobBytes}
-use Rattle.sz_journal_format.specs.Rounds.{AreRounds, last_progress}
-use Rattle.sz_journal_rules.specs.Journals.{Spells}
+use Rattle.sz_workers.specs.Outcomes.{ShardsEnd, emitted, faulted, lost, outcome_of}
+use Rattle.sz_workers.specs.Cuts.{cut_into}
+use Rattle.sz_journal.specs.declared.job.JobBytes.{JobBytes}
+use Rattle.sz_journal.specs.Rounds.{AreRounds, last_progress}
+use Rattle.sz_journal.specs.Journals.{Spells}
 use Rattle.sz_journal.specs.declared.journal.Journal.{Journal}
 use Rattle.sz_journal.specs.Journal.{rounds_of, last_gate, IsOf}
 use Rattle.sz_stream.specs.declared.stop.Stop.TheVariants as stops

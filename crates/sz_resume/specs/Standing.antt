@@ -9,14 +9,14 @@ use Rattle.sz_records.specs.Cutting.{full, IsCut, place_after}
 use Rattle.sz_records.specs.Shards.{AreShards}
 use Rattle.sz_attempt.specs.declared.job.Job.{Job}
 use Rattle.sz_attempt.specs.Shards.{ShardData}
-use Rattle.sz_rounds.specs.Outcomes.{emitted, outcome_from, all_records}
-use Rattle.sz_rounds.specs.Cuts.{cut_into}
-use Rattle.sz_gates.specs.Entries.{IsEmpty}
-use Rattle.sz_journal_format.specs.declared.job.JobBytes.{JobBytes}
-use Rattle.sz_journal_format.specs.declared.progress.Progress.{Progress}
-use Rattle.sz_journal_format.specs.declared.round.RoundEntry.{RoundEntry}
-use Rattle.sz_journal_format.specs.Rounds.{no_progress, progress_of}
-use Rattle.sz_journal_rules.specs.Journals.{Spells}
+use Rattle.sz_workers.specs.Outcomes.{emitted, outcome_from, all_records}
+use Rattle.sz_workers.specs.Cuts.{cut_into}
+use Rattle.sz_disk.specs.Entries.{IsEmpty}
+use Rattle.sz_journal.specs.declared.job.JobBytes.{JobBytes}
+use Rattle.sz_journal.specs.declared.progress.Progress.{Progress}
+use Rattle.sz_journal.specs.declared.round.RoundEntry.{RoundEntry}
+use Rattle.sz_journal.specs.Rounds.{no_progress, progress_of}
+use Rattle.sz_journal.specs.Journals.{Spells}
 
 -- what a job is run over: the bytes of an input, how its records are told apart, and how many of them a shard has at most
 pub record Source : Type 0 where

@@ -4,13 +4,13 @@ use Rattle.sz_types.specs.Tables.{Declaration}
 use Rattle.sz_attempt.specs.declared.job.Job.{Job}
 use Rattle.sz_flat.specs.Spelling.{IsShort}
 use Rattle.sz_disk.specs.Crashes.{Images}
-use Rattle.sz_gates.specs.Crashing.{Rests, LeavesOnly}
-use Rattle.sz_gates.specs.Entries.{IsEmpty}
-use Rattle.sz_journal_format.specs.declared.job.JobBytes.{JobBytes}
-use Rattle.sz_journal_format.specs.declared.progress.Progress.{Progress}
-use Rattle.sz_journal_format.specs.declared.round.RoundEntry.{RoundEntry}
-use Rattle.sz_journal_format.specs.Rounds.{progress_of, last_progress}
-use Rattle.sz_journal_rules.specs.Journals.{Spells}
+use Rattle.sz_disk.specs.Crashing.{Rests, LeavesOnly}
+use Rattle.sz_disk.specs.Entries.{IsEmpty}
+use Rattle.sz_journal.specs.declared.job.JobBytes.{JobBytes}
+use Rattle.sz_journal.specs.declared.progress.Progress.{Progress}
+use Rattle.sz_journal.specs.declared.round.RoundEntry.{RoundEntry}
+use Rattle.sz_journal.specs.Rounds.{progress_of, last_progress}
+use Rattle.sz_journal.specs.Journals.{Spells}
 use Rattle.sz_resume.specs.Standing.{Source, StandsFor, Stands, IsFound}
 
 -- the rounds are the first of these others

@@ -11,10 +11,10 @@ use Rattle.sz_records.specs.Cutting.{full, IsCut}
 use Rattle.sz_records.specs.Shards.{AreShards}
 use Rattle.sz_attempt.specs.declared.job.Job.{Job}
 use Rattle.sz_attempt.specs.Shards.{ShardData}
-use Rattle.sz_rounds.specs.Outcomes.{ShardsEnd}
-use Rattle.sz_rounds.specs.Cuts.{cut_into}
-use Rattle.sz_journal_format.specs.declared.round.RoundEntry.{RoundEntry}
-use Rattle.sz_journal_format.specs.Rounds.{no_progress, last_progress}
+use Rattle.sz_workers.specs.Outcomes.{ShardsEnd}
+use Rattle.sz_workers.specs.Cuts.{cut_into}
+use Rattle.sz_journal.specs.declared.round.RoundEntry.{RoundEntry}
+use Rattle.sz_journal.specs.Rounds.{no_progress, last_progress}
 use Rattle.sz_stream.specs.declared.done.Done.{Done}
 use Rattle.sz_stream.specs.declared.intake.Intake.{Intake}
 use Rattle.sz_stream.specs.declared.stop.Stop.TheVariants as stops

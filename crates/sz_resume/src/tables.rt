@@ -5,18 +5,17 @@ ghost use Rattle.sz_save_format.specs.Saved.{SavedState};
 ghost use Rattle.sz_attempt.specs.Shards.{IsJob};
 ghost use Rattle.sz_save.specs.Saving.{HaveSpelling};
 ghost use Rattle.sz_total.specs.Weights.{HaveTheirWeights};
-ghost use Rattle.sz_journal_format.specs.declared.job.JobBytes.{JobBytes};
-ghost use Rattle.sz_journal_format.specs.Rounds.{AreRounds};
+ghost use Rattle.sz_journal.specs.declared.job.JobBytes.{JobBytes};
+ghost use Rattle.sz_journal.specs.Rounds.{AreRounds};
 ghost use Rattle.sz_merge.specs.Groups.{AreOf};
 ghost use Rattle.sz_resume.specs.Entries.{CanTake, HoldsRounds};
 ghost use Rattle.sz_merge.specs.declared.error.MergeError.TheVariants as errors;
 
 use std::alloc::Global;
 use sz_attempt::Job;
-use sz_journal_format::RoundEntries;
-use sz_merge::{MergeError, Merging};
+use sz_journal::RoundEntries;
+use sz_merge::{MergeError, Merging, saved_runs_join};
 use sz_save::{NoMemory, Saved, one_spelling, save, write_saved};
-use sz_save_laws::saved_runs_join;
 use sz_total::Total;
 use sz_types::TableDecls;
 

@@ -38,7 +38,8 @@ module _ (bound : ℕ) (flat : List ℕ) where
   unfolding table_at
   no_declaration none = ap (λ o. and_then o table_behind) none
 
-  pub declaration_stops : (table : Declaration) (e : SavedError) → Stops (declaration_at flat) e → StopsTable bound table flat (error_of_reading e)
+  pub declaration_stops : (table : Declaration) (e : SavedError) → Stops (declaration_at flat) e
+      → StopsTable bound table flat (error_of_reading e)
   declaration_stops table reading.NotSaved stop = no_declaration stop
   declaration_stops table reading.NoMemory stop = tt
 
@@ -55,13 +56,15 @@ module _ (bound : ℕ) (flat : List ℕ) where
     table_found : (entries : List Indexed) (more : List ℕ) → entries_at bound table rest ≡ Some (entries, more)
         → table_at bound flat ≡ Some ((table, entries), more)
     unfolding table_at
-    table_found entries more found = ap (λ o. and_then o table_behind) head ∙ ap (λ o. and_then o (pair_with table)) found
+    table_found entries more found = ap (λ o. and_then o table_behind) head
+        ∙ ap (λ o. and_then o (pair_with table)) found
 
-    pub table_reads : (other : Declaration) (kept joined : List Indexed) (more : List ℕ) → table ≡ other → ReadsJoined bound other kept rest joined more
-        → ReadsTable bound other kept flat joined more
+    pub table_reads : (other : Declaration) (kept joined : List Indexed) (more : List ℕ) → table ≡ other
+        → ReadsJoined bound other kept rest joined more → ReadsTable bound other kept flat joined more
     table_reads other kept joined more same h = record {
       entries = h.entries;
-      found = table_found h.entries more (ap (λ d. entries_at bound d rest) same ∙ h.found) ∙ (λ i. Some ((same i, h.entries), more));
+      found = table_found h.entries more (ap (λ d. entries_at bound d rest) same ∙ h.found)
+          ∙ (λ i. Some ((same i, h.entries), more));
       is = h.is;
       counted = h.counted;
     }
@@ -91,7 +94,8 @@ take_here (y ∷ ys) (suc i) x is =
     let next : suc i + 1 ≡ suc (i + 1) = omega arith in
     ap (λ n. take n (y ∷ ys)) next ∙ ap (λ l. y ∷ l) (take_here ys i x is)
 
-get_behind : {X : Type 0} (xs : List X) (y : X) (ys : List X) (i : ℕ) → length xs ≡ i → slice_get (xs ++ y ∷ ys) i ≡ Some y
+get_behind : {X : Type 0} (xs : List X) (y : X) (ys : List X) (i : ℕ) → length xs ≡ i
+    → slice_get (xs ++ y ∷ ys) i ≡ Some y
 get_behind [] y ys zero long = refl
 get_behind [] y ys (suc i) long = absurd (omega (arith, long))
 get_behind (x ∷ xs) y ys zero long = absurd (omega (arith, long))
@@ -108,8 +112,9 @@ abbrev decl_of : Declaration × List Indexed → Declaration
 decl_of t = t.0
 
 -- where tables have these declarations, the one at a place has the one there
-decl_there : (front : List (Declaration × List Indexed)) (here : Declaration × List Indexed) (behind tables : List (Declaration × List Indexed))
-    (ds : List Declaration) (i : ℕ) (d : Declaration) → front ++ here ∷ behind ≡ tables → map decl_of tables ≡ ds → length front ≡ i → slice_get ds i ≡ Some d
+decl_there : (front : List (Declaration × List Indexed)) (here : Declaration × List Indexed)
+    (behind tables : List (Declaration × List Indexed)) (ds : List Declaration) (i : ℕ) (d : Declaration)
+    → front ++ here ∷ behind ≡ tables → map decl_of tables ≡ ds → length front ≡ i → slice_get ds i ≡ Some d
     → here.0 ≡ d
 decl_there front here behind tables ds i d are same long at =
     let there = get_behind (map decl_of front) here.0 (map decl_of behind) i (length-map front decl_of ∙ long) in
@@ -120,14 +125,17 @@ module _ (bound : ℕ) (flat : List ℕ) (ds : List Declaration) (kept : List (L
   -- the tables so far were read, and joined to what is kept
   pub record TablesSoFar (i : ℕ) (rest : List ℕ) (joined left : List (List Indexed)) : Type 0 where
     pub done : List (List Indexed)
-    pub read : counted_at (table_at bound) flat ≡ after (zip (take i ds) done) (many_at (table_at bound) (length ds - i) rest)
-    pub walk : (more : List (List Indexed)) → joined_tables ds kept (done ++ more) ≡ joined ++ joined_tables (drop i ds) left more
+    pub read : counted_at (table_at bound) flat
+        ≡ after (zip (take i ds) done) (many_at (table_at bound) (length ds - i) rest)
+    pub walk : (more : List (List Indexed))
+        → joined_tables ds kept (done ++ more) ≡ joined ++ joined_tables (drop i ds) left more
     pub counted : AllByRecursion AreCounted joined
     pub can : CanTakeAll bound (drop i ds) left
     pub long : length done ≡ i
     pub within : i ≤ length ds
 
-  pub tables_begin : (count : ℕ) (rest : List ℕ) (joined left : List (List Indexed)) → length_at flat ≡ Some (count, rest) → count ≡ length ds → joined ≡ []
+  pub tables_begin : (count : ℕ) (rest : List ℕ) (joined left : List (List Indexed))
+      → length_at flat ≡ Some (count, rest) → count ≡ length ds → joined ≡ []
       → left ≡ kept → CanTakeAll bound ds kept → TablesSoFar 0 rest joined left
   tables_begin count rest joined left head many none all can = record {
     done = [];
@@ -144,18 +152,22 @@ module _ (bound : ℕ) (flat : List ℕ) (ds : List Declaration) (kept : List (L
   length_stops reading.NoMemory stop = tt
 
   -- the number of tables differs
-  pub other_count : (count : ℕ) (rest : List ℕ) → length_at flat ≡ Some (count, rest) → (count ≡ length ds → ⊥) → IsOtherTables bound ds flat
+  pub other_count : (count : ℕ) (rest : List ℕ) → length_at flat ≡ Some (count, rest) → (count ≡ length ds → ⊥)
+      → IsOtherTables bound ds flat
   unfolding counted_at
   other_count count rest head differ tables more found same =
-      let many = many_long (table_at bound) count rest tables more (sym (ap (λ o. and_then o (λ n mid. many_at (table_at bound) n mid)) head) ∙ found) in
+      let many = many_long (table_at bound) count rest tables more
+      (sym (ap (λ o. and_then o (λ n mid. many_at (table_at bound) n mid)) head) ∙ found) in
       differ (sym many ∙ sym (length-map tables decl_of) ∙ ap length same)
 
   module _ (i : ℕ) (rest : List ℕ) (joined left : List (List Indexed)) (far : TablesSoFar i rest joined left) where
     module _ (less : i < length ds) (d : Declaration) (here : slice_get ds i ≡ Some d) where
       pub table_stops : (e : ReadJoinError) → StopsTable bound d rest e → StopsTables bound ds flat e
       table_stops NotSaved stop =
-          many_stops (table_at bound) (counted_at (table_at bound) flat) (zip (take i ds) far.done) rest (length ds) i less stop far.read
-      table_stops Other stop = λ tables end found same. by_rest (many_at (table_at bound) (length ds - i) rest) refl tables end found same
+          many_stops (table_at bound) (counted_at (table_at bound) flat) (zip (take i ds) far.done) rest
+          (length ds) i less stop far.read
+      table_stops Other stop =
+          λ tables end found same. by_rest (many_at (table_at bound) (length ds - i) rest) refl tables end found same
         where
           front : List (Declaration × List Indexed)
           front = zip (take i ds) far.done
@@ -168,47 +180,54 @@ module _ (bound : ℕ) (flat : List ℕ) (ds : List Declaration) (kept : List (L
           one_left : length ds - i ≡ suc (length ds - (i + 1))
           one_left = omega (arith, less)
 
-          by_first : (p : List (Declaration × List Indexed) × List ℕ) → many_at (table_at bound) (length ds - i) rest ≡ Some p
-              → (tables : List (Declaration × List Indexed))
+          by_first : (p : List (Declaration × List Indexed) × List ℕ)
+              → many_at (table_at bound) (length ds - i) rest ≡ Some p → (tables : List (Declaration × List Indexed))
               → front ++ p.0 ≡ tables → map decl_of tables ≡ ds → ⊥
           by_first p is tables are same =
               let step = sym (ap (λ n. many_at (table_at bound) n rest) one_left) ∙ is in
-              let first = then_some (table_at bound rest) (λ x mid. put_first x (many_at (table_at bound) (length ds - (i + 1)) mid)) p step in
+              let first = then_some (table_at bound rest)
+              (λ x mid. put_first x (many_at (table_at bound) (length ds - (i + 1)) mid)) p step in
               let later = first_of first.0 (many_at (table_at bound) (length ds - (i + 1)) first.1) p first.3 in
-              stop first.0 first.1 first.2 (decl_there front first.0 later.0 tables ds i d (ap (λ l. front ++ l) later.1 ∙ are) same front_long here)
+              stop first.0 first.1 first.2 (decl_there front first.0 later.0 tables ds i d
+              (ap (λ l. front ++ l) later.1 ∙ are) same front_long here)
             where
-              first_of : {X : Type 0} (x : X) (o : Option (List X × List ℕ)) (q : List X × List ℕ) → put_first x o ≡ Some q → (zs : List X) × (x ∷ zs ≡ q.0)
+              first_of : {X : Type 0} (x : X) (o : Option (List X × List ℕ)) (q : List X × List ℕ)
+                  → put_first x o ≡ Some q → (zs : List X) × (x ∷ zs ≡ q.0)
               first_of x None q f = absurd (none_some f)
               first_of x (Some g) q f = (g.0, (λ j. (some_is (x ∷ g.0, g.1) q f j).0))
 
-          by_rest : (o : Option (List (Declaration × List Indexed) × List ℕ)) → many_at (table_at bound) (length ds - i) rest ≡ o
-              → (tables : List (Declaration × List Indexed)) (end : List ℕ) → counted_at (table_at bound) flat ≡ Some (tables, end)
+          by_rest : (o : Option (List (Declaration × List Indexed) × List ℕ))
+              → many_at (table_at bound) (length ds - i) rest ≡ o → (tables : List (Declaration × List Indexed))
+              (end : List ℕ) → counted_at (table_at bound) flat ≡ Some (tables, end)
               → map decl_of tables ≡ ds → ⊥
           by_rest None is tables end found same = none_some (sym (far.read ∙ ap (after front) is) ∙ found)
           by_rest (Some p) is tables end found same =
-              by_first p is tables (found_is (front ++ p.0) tables p.1 end (sym (far.read ∙ ap (after front) is) ∙ found)).0 same
+              by_first p is tables
+              (found_is (front ++ p.0) tables p.1 end (sym (far.read ∙ ap (after front) is) ∙ found)).0 same
       table_stops NoMemory stop = tt
 
       module _ (t : List Indexed) (behind : List (List Indexed)) (split : left ≡ t ∷ behind) where
         cans : CanTakeMore bound d t × CanTakeAll bound (drop (i + 1) ds) behind
-        cans = subst (λ l. CanTakeAll bound (d ∷ drop (i + 1) ds) l) split (subst (λ l. CanTakeAll bound l left) (drop_here ds i d here) far.can)
+        cans = subst (λ l. CanTakeAll bound (d ∷ drop (i + 1) ds) l) split
+            (subst (λ l. CanTakeAll bound l left) (drop_here ds i d here) far.can)
 
         pub table_takes : CanTakeMore bound d t
         table_takes = cans.0
 
-        pub tables_go : (both : List Indexed) (more_rest : List ℕ) (now : List (List Indexed)) → ReadsTable bound d t rest both more_rest
-            → now ≡ joined ++ both ∷ []
+        pub tables_go : (both : List Indexed) (more_rest : List ℕ) (now : List (List Indexed))
+            → ReadsTable bound d t rest both more_rest → now ≡ joined ++ both ∷ []
             → TablesSoFar (i + 1) more_rest now behind
         tables_go both more_rest now h pushed =
             let long = length-take-le i ds far.within in
             record {
               done = far.done ++ h.entries ∷ [];
-              read = many_goes (table_at bound) (counted_at (table_at bound) flat) (zip (take i ds) far.done) rest (length ds) i (d, h.entries) more_rest less
-                  h.found far.read
+              read = many_goes (table_at bound) (counted_at (table_at bound) flat) (zip (take i ds) far.done) rest
+                  (length ds) i (d, h.entries) more_rest less h.found far.read
                   ∙ ap (λ l. after l (many_at (table_at bound) (length ds - (i + 1)) more_rest))
                   (sym (zip_more (take i ds) far.done d h.entries (far.long ∙ sym long))
                   ∙ ap (λ l. zip l (far.done ++ h.entries ∷ [])) (sym (take_here ds i d here)));
-              walk = λ more. ap (joined_tables ds kept) (append_assoc far.done (h.entries ∷ []) more) ∙ far.walk (h.entries ∷ more)
+              walk = λ more. ap (joined_tables ds kept) (append_assoc far.done (h.entries ∷ []) more)
+                  ∙ far.walk (h.entries ∷ more)
                   ∙ (λ k. joined ++ joined_tables (drop_here ds i d here k) (split k) (h.entries ∷ more))
                   ∙ ap (λ b. joined ++ b ∷ joined_tables (drop (i + 1) ds) behind more) (sym h.is)
                   ∙ sym (append_assoc joined (both ∷ []) (joined_tables (drop (i + 1) ds) behind more))
@@ -222,7 +241,8 @@ module _ (bound : ℕ) (flat : List ℕ) (ds : List Declaration) (kept : List (L
     pub tables_there : i < length ds → 1 ≤ length left
     tables_there less = at (drop i ds) left far.can (length-drop i ds)
       where
-        at : (es : List Declaration) (ts : List (List Indexed)) → CanTakeAll bound es ts → length es ≡ length ds - i → 1 ≤ length ts
+        at : (es : List Declaration) (ts : List (List Indexed)) → CanTakeAll bound es ts
+            → length es ≡ length ds - i → 1 ≤ length ts
         at [] [] can long = absurd (omega (arith, long, less))
         at [] (t ∷ ts) can long = absurd can
         at (e ∷ es) [] can long = absurd can
@@ -235,9 +255,10 @@ module _ (bound : ℕ) (flat : List ℕ) (ds : List Declaration) (kept : List (L
         record {
           tables = far.done;
           as_many = omega (arith, last, far.long, far.within);
-          found = many_ends (table_at bound) (counted_at (table_at bound) flat) (zip (take i ds) far.done) rest (length ds) i last far.read
-              ∙ (λ k. Some (zip (all k) far.done, rest));
-          is = append_nil joined ∙ (λ k. joined ++ joined_tables (sym none k) left []) ∙ sym (far.walk []) ∙ ap (joined_tables ds kept) (append-nil far.done);
+          found = many_ends (table_at bound) (counted_at (table_at bound) flat) (zip (take i ds) far.done) rest
+              (length ds) i last far.read ∙ (λ k. Some (zip (all k) far.done, rest));
+          is = append_nil joined ∙ (λ k. joined ++ joined_tables (sym none k) left []) ∙ sym (far.walk [])
+              ∙ ap (joined_tables ds kept) (append-nil far.done);
           counted = far.counted;
         }
       where
@@ -252,7 +273,8 @@ module _ (bound : ℕ) (flat : List ℕ) (ds : List Declaration) (kept : List (L
 
 -- ---- whole files
 
-keep_sums : (kind : TableKind) (first limit : ℕ) (element : Shape) (es : List Indexed) → AllByRecursion (λ e. HaveRows kind first limit element e.rows) es
+keep_sums : (kind : TableKind) (first limit : ℕ) (element : Shape) (es : List Indexed)
+    → AllByRecursion (λ e. HaveRows kind first limit element e.rows) es
     → KeepSums kind (components element) (first * 2 ^ 63) es
 keep_sums Sum first limit element es h = all_sums first limit element es h
 keep_sums Maximum first limit element es h = tt
@@ -260,8 +282,8 @@ keep_sums Minimum first limit element es h = tt
 keep_sums Set first limit element es h = tt
 keep_sums Collection first limit element es h = tt
 
-all_can : (first bound : ℕ) (ds : List Declaration) (ts : List (List Indexed)) → first + bound ≤ 2 ^ 63 → length ts ≡ length ds
-    → AllByRecursion (IsSavedTable first) (zip ds ts) → CanTakeAll bound ds ts
+all_can : (first bound : ℕ) (ds : List Declaration) (ts : List (List Indexed)) → first + bound ≤ 2 ^ 63
+    → length ts ≡ length ds → AllByRecursion (IsSavedTable first) (zip ds ts) → CanTakeAll bound ds ts
 all_can first bound [] [] low long h = tt
 all_can first bound [] (t ∷ ts) low long h = absurd (omega (arith, long))
 all_can first bound (d ∷ ds) [] low long h = absurd (omega (arith, long))
@@ -276,8 +298,8 @@ all_can first bound (d ∷ ds) (t ∷ ts) low long h = (
   all_can first bound ds ts low (omega (arith, long)) h.1,
 )
 
-pub kept_can : (one : SavedState) (bound : ℕ) (ds : List Declaration) (ts : List (List Indexed)) → CanBeSaved one → one.bound + bound ≤ 2 ^ 63 → ds ≡ one.decls
-    → ts ≡ one.tables → CanTakeAll bound ds ts
+pub kept_can : (one : SavedState) (bound : ℕ) (ds : List Declaration) (ts : List (List Indexed)) → CanBeSaved one
+    → one.bound + bound ≤ 2 ^ 63 → ds ≡ one.decls → ts ≡ one.tables → CanTakeAll bound ds ts
 kept_can one bound ds ts can low decls tables =
     subst (λ l. CanTakeAll bound l ts) (sym decls) (subst (CanTakeAll bound one.decls) (sym tables)
     (all_can one.bound bound one.decls one.tables low can.as_many can.each))
@@ -293,12 +315,13 @@ module _ (one : SavedState) (flat : List ℕ) where
 
     abbrev tables_of_head : ℕ → List ℕ → Option (SavedState × List ℕ)
     tables_of_head n mid =
-        and_then (counted_at (table_at n) mid) (λ tables left. only (length left == 0) (Some (state_with n tables, left)))
+        and_then (counted_at (table_at n) mid)
+        (λ tables left. only (length left == 0) (Some (state_with n tables, left)))
 
     -- what is saved has its tables there
     read_of : (state : SavedState) → Saves flat state
-        → (tables : List (Declaration × List Indexed)) × (left : List ℕ) × (counted_at (table_at bound) rest ≡ Some (tables, left))
-        × (state.decls ≡ map (λ t. t.0) tables)
+        → (tables : List (Declaration × List Indexed)) × (left : List ℕ)
+        × (counted_at (table_at bound) rest ≡ Some (tables, left)) × (state.decls ≡ map (λ t. t.0) tables)
     unfolding saved_at
     read_of state h =
         let all : saved_at flat ≡ Some (state, []) = ap saved_at h.is ∙ saved_again state h.can in
@@ -308,19 +331,21 @@ module _ (one : SavedState) (flat : List ℕ) where
         let same = (found_is (state_with bound tables.0) state tables.1 [] last.1).0 in
         (tables.0, tables.1, tables.2, sym (ap (λ (s : SavedState). s.decls) same))
 
-    pub tables_stop : (ds : List Declaration) (e : ReadJoinError) → ds ≡ one.decls → StopsTables bound ds rest e → StopsRead one flat e
+    pub tables_stop : (ds : List Declaration) (e : ReadJoinError) → ds ≡ one.decls → StopsTables bound ds rest e
+        → StopsRead one flat e
     tables_stop ds NotSaved decls stop = nothing_saves flat (no_tables flat bound rest head stop)
     tables_stop ds Other decls stop = λ state saves same.
         let tables = read_of state saves in
         stop tables.0 tables.1 tables.2 (sym tables.3 ∙ same ∙ sym decls)
     tables_stop ds NoMemory decls stop = tt
 
-    module _ (ds : List Declaration) (ts joined : List (List Indexed)) (left : List ℕ) (reads : ReadsTables bound ds ts rest joined left) where
+    module _ (ds : List Declaration) (ts joined : List (List Indexed)) (left : List ℕ)
+        (reads : ReadsTables bound ds ts rest joined left) where
       pub end_stops : (length left == 0) ≡ false → StopsRead one flat NotSaved
       end_stops more = nothing_saves flat (no_end flat bound rest (zip ds reads.tables) left head reads.found more)
 
-      module _ (n : ℕ) (can : CanBeSaved one) (low : one.bound + bound ≤ 2 ^ 63) (decls : ds ≡ one.decls) (tables : ts ≡ one.tables)
-          (sum : n ≡ one.bound + bound)
+      module _ (n : ℕ) (can : CanBeSaved one) (low : one.bound + bound ≤ 2 ^ 63) (decls : ds ≡ one.decls)
+          (tables : ts ≡ one.tables) (sum : n ≡ one.bound + bound)
           (none : left ≡ []) where
         abbrev other : SavedState
         other = record { bound = bound; decls = ds; tables = reads.tables }
@@ -329,15 +354,18 @@ module _ (one : SavedState) (flat : List ℕ) where
         saves = lists_save flat bound rest ds reads.tables left head reads.found reads.as_many none
 
         pub read_saved_both : CanBeSaved (record { bound = n; decls = ds; tables = joined })
-        read_saved_both = states_saved one other decls can saves.can n ds ds joined ts reads.tables sum decls reads.is decls tables refl low reads.counted
+        read_saved_both = states_saved one other decls can saves.can n ds ds joined ts reads.tables sum decls
+            reads.is decls tables refl low reads.counted
 
-        pub read_joins : (both : SavedState) → both ≡ record { bound = n; decls = ds; tables = joined } → JoinsRead one flat both
+        pub read_joins : (both : SavedState) → both ≡ record { bound = n; decls = ds; tables = joined }
+            → JoinsRead one flat both
         read_joins both is = record {
           state = other;
           saves = saves;
           behind = rest;
           head = head;
           joins = subst (Joins one other) (sym is)
-              (states_join one other decls can saves.can n ds ds joined ts reads.tables sum decls reads.is decls tables refl);
+              (states_join one other decls can saves.can n ds ds joined ts reads.tables sum decls
+              reads.is decls tables refl);
           can = subst CanBeSaved (sym is) read_saved_both;
         }

@@ -23,7 +23,8 @@ can_after Minimum e es os can = tt
 can_after Set e es os can = tt
 can_after Collection e es os can = tt
 
-pub can_left : (kind : TableKind) (es : List Indexed) (o : Indexed) (os : List Indexed) → CanJoin kind es (o ∷ os) → CanJoin kind es os
+pub can_left : (kind : TableKind) (es : List Indexed) (o : Indexed) (os : List Indexed) → CanJoin kind es (o ∷ os)
+    → CanJoin kind es os
 can_left Sum es o os can = record {
   count = can.count;
   most = can.most;
@@ -38,7 +39,8 @@ can_left Set es o os can = tt
 can_left Collection es o os can = tt
 
 -- and for the rows of the first on either side
-pub can_alone : (kind : TableKind) (e : Indexed) (es os : List Indexed) → CanJoin kind (e ∷ es) os → RowsCanJoin kind e.rows []
+pub can_alone : (kind : TableKind) (e : Indexed) (es os : List Indexed) → CanJoin kind (e ∷ es) os
+    → RowsCanJoin kind e.rows []
 can_alone Sum e es os can = record {
   count = can.count;
   most = can.most;
@@ -52,7 +54,8 @@ can_alone Minimum e es os can = tt
 can_alone Set e es os can = tt
 can_alone Collection e es os can = tt
 
-pub can_other : (kind : TableKind) (es : List Indexed) (o : Indexed) (os : List Indexed) → CanJoin kind es (o ∷ os) → RowsCanJoin kind [] o.rows
+pub can_other : (kind : TableKind) (es : List Indexed) (o : Indexed) (os : List Indexed) → CanJoin kind es (o ∷ os)
+    → RowsCanJoin kind [] o.rows
 can_other Sum es o os can = record {
   count = can.count;
   most = can.most;
@@ -66,8 +69,8 @@ can_other Minimum es o os can = tt
 can_other Set es o os can = tt
 can_other Collection es o os can = tt
 
-pub can_both : (kind : TableKind) (e : Indexed) (es : List Indexed) (o : Indexed) (os : List Indexed) → CanJoin kind (e ∷ es) (o ∷ os)
-    → RowsCanJoin kind e.rows o.rows
+pub can_both : (kind : TableKind) (e : Indexed) (es : List Indexed) (o : Indexed) (os : List Indexed)
+    → CanJoin kind (e ∷ es) (o ∷ os) → RowsCanJoin kind e.rows o.rows
 can_both Sum e es o os can = record {
   count = can.count;
   most = can.most;
@@ -82,55 +85,65 @@ can_both Set e es o os can = tt
 can_both Collection e es o os can = tt
 
 -- the same, where a side is the first with what stands behind it
-pub alone_can : (kind : TableKind) (entries others : List Indexed) (e : Indexed) (es : List Indexed) → entries ≡ e ∷ es → CanJoin kind entries others
-    → RowsCanJoin kind e.rows []
+pub alone_can : (kind : TableKind) (entries others : List Indexed) (e : Indexed) (es : List Indexed)
+    → entries ≡ e ∷ es → CanJoin kind entries others → RowsCanJoin kind e.rows []
 alone_can kind entries others e es split can = can_alone kind e es others (subst (λ l. CanJoin kind l others) split can)
 
-pub other_can : (kind : TableKind) (entries others : List Indexed) (o : Indexed) (os : List Indexed) → others ≡ o ∷ os → CanJoin kind entries others
-    → RowsCanJoin kind [] o.rows
+pub other_can : (kind : TableKind) (entries others : List Indexed) (o : Indexed) (os : List Indexed) → others ≡ o ∷ os
+    → CanJoin kind entries others → RowsCanJoin kind [] o.rows
 other_can kind entries others o os split can = can_other kind entries o os (subst (CanJoin kind entries) split can)
 
-pub both_can : (kind : TableKind) (entries others : List Indexed) (e : Indexed) (es : List Indexed) (o : Indexed) (os : List Indexed) → entries ≡ e ∷ es
+pub both_can : (kind : TableKind) (entries others : List Indexed) (e : Indexed) (es : List Indexed) (o : Indexed)
+    (os : List Indexed) → entries ≡ e ∷ es
     → others ≡ o ∷ os → CanJoin kind entries others → RowsCanJoin kind e.rows o.rows
 both_can kind entries others e es o os split other_split can =
     can_both kind e es o os (subst (CanJoin kind (e ∷ es)) other_split (subst (λ l. CanJoin kind l others) split can))
 
 -- the steps, where each side is the first with what stands behind it
 module _ (kind : TableKind) (limit : ℕ) where
-  pub steps_other : (entries others : List Indexed) (o : Indexed) (os : List Indexed) (joined : Indexed) → entries ≡ [] → others ≡ o ∷ os
-      → joined ≡ other_alone kind limit o → CanJoin kind entries others → HasCountedRows joined → Steps kind limit entries others joined entries os
+  pub steps_other : (entries others : List Indexed) (o : Indexed) (os : List Indexed) (joined : Indexed)
+      → entries ≡ [] → others ≡ o ∷ os → joined ≡ other_alone kind limit o → CanJoin kind entries others
+      → HasCountedRows joined → Steps kind limit entries others joined entries os
   unfolding joined_entries
   steps_other entries others o os joined none split is can few = record {
     few = few;
-    is = (λ i. joined_entries kind limit (none i) (split i)) ∙ (λ i. sym is i ∷ joined_entries kind limit (sym none i) os);
+    is = (λ i. joined_entries kind limit (none i) (split i))
+        ∙ (λ i. sym is i ∷ joined_entries kind limit (sym none i) os);
     shorter = omega (arith, ap length split);
     can = can_left kind entries o os (subst (CanJoin kind entries) split can);
   }
 
-  pub steps_alone : (entries others : List Indexed) (e : Indexed) (es : List Indexed) (joined : Indexed) → entries ≡ e ∷ es → others ≡ []
-      → joined ≡ alone kind limit e → CanJoin kind entries others → HasCountedRows joined → Steps kind limit entries others joined es others
+  pub steps_alone : (entries others : List Indexed) (e : Indexed) (es : List Indexed) (joined : Indexed)
+      → entries ≡ e ∷ es → others ≡ [] → joined ≡ alone kind limit e → CanJoin kind entries others
+      → HasCountedRows joined → Steps kind limit entries others joined es others
   unfolding joined_entries
   steps_alone entries others e es joined split none is can few = record {
     few = few;
-    is = (λ i. joined_entries kind limit (split i) (none i)) ∙ (λ i. sym is i ∷ joined_entries kind limit es (sym none i));
+    is = (λ i. joined_entries kind limit (split i) (none i))
+        ∙ (λ i. sym is i ∷ joined_entries kind limit es (sym none i));
     shorter = omega (arith, ap length split);
     can = can_after kind e es others (subst (λ l. CanJoin kind l others) split can);
   }
 
-  module _ (entries others : List Indexed) (e : Indexed) (es : List Indexed) (o : Indexed) (os : List Indexed) (joined : Indexed)
-      (split : entries ≡ e ∷ es) (other_split : others ≡ o ∷ os) (can : CanJoin kind entries others)
+  module _ (entries others : List Indexed) (e : Indexed) (es : List Indexed) (o : Indexed) (os : List Indexed)
+      (joined : Indexed) (split : entries ≡ e ∷ es) (other_split : others ≡ o ∷ os)
+      (can : CanJoin kind entries others)
       (few : HasCountedRows joined) where
-    chosen : (found : Ordering) → compare_indexes e.indexes o.indexes ≡ found → joined_entries kind limit (e ∷ es) (o ∷ os)
+    chosen : (found : Ordering) → compare_indexes e.indexes o.indexes ≡ found
+        → joined_entries kind limit (e ∷ es) (o ∷ os)
         ≡ match_ordering found (alone kind limit e ∷ joined_entries kind limit es (o ∷ os))
-        (joined_entry kind limit e.indexes e.rows o.rows ∷ joined_entries kind limit es os) (other_alone kind limit o ∷ joined_entries kind limit (e ∷ es) os)
+        (joined_entry kind limit e.indexes e.rows o.rows ∷ joined_entries kind limit es os)
+        (other_alone kind limit o ∷ joined_entries kind limit (e ∷ es) os)
     unfolding joined_entries
     chosen found is = ap (λ f. match_ordering f (alone kind limit e ∷ joined_entries kind limit es (o ∷ os))
-        (joined_entry kind limit e.indexes e.rows o.rows ∷ joined_entries kind limit es os) (other_alone kind limit o ∷ joined_entries kind limit (e ∷ es) os)) is
+        (joined_entry kind limit e.indexes e.rows o.rows ∷ joined_entries kind limit es os)
+        (other_alone kind limit o ∷ joined_entries kind limit (e ∷ es) os)) is
 
     begins : joined_entries kind limit entries others ≡ joined_entries kind limit (e ∷ es) (o ∷ os)
     begins = λ i. joined_entries kind limit (split i) (other_split i)
 
-    pub steps_less : compare_indexes e.indexes o.indexes ≡ Less → joined ≡ alone kind limit e → Steps kind limit entries others joined es others
+    pub steps_less : compare_indexes e.indexes o.indexes ≡ Less → joined ≡ alone kind limit e
+        → Steps kind limit entries others joined es others
     steps_less found is = record {
       few = few;
       is = begins ∙ chosen Less found ∙ (λ i. sym is i ∷ joined_entries kind limit es (sym other_split i));
@@ -138,16 +151,18 @@ module _ (kind : TableKind) (limit : ℕ) where
       can = can_after kind e es others (subst (λ l. CanJoin kind l others) split can);
     }
 
-    pub steps_equal : compare_indexes e.indexes o.indexes ≡ Equal → joined ≡ joined_entry kind limit e.indexes e.rows o.rows
-        → Steps kind limit entries others joined es os
+    pub steps_equal : compare_indexes e.indexes o.indexes ≡ Equal
+        → joined ≡ joined_entry kind limit e.indexes e.rows o.rows → Steps kind limit entries others joined es os
     steps_equal found is = record {
       few = few;
       is = begins ∙ chosen Equal found ∙ (λ i. sym is i ∷ joined_entries kind limit es os);
       shorter = omega (arith, ap length split, ap length other_split);
-      can = can_after kind e es os (can_left kind (e ∷ es) o os (subst (λ l. CanJoin kind l (o ∷ os)) split (subst (CanJoin kind entries) other_split can)));
+      can = can_after kind e es os (can_left kind (e ∷ es) o os
+          (subst (λ l. CanJoin kind l (o ∷ os)) split (subst (CanJoin kind entries) other_split can)));
     }
 
-    pub steps_greater : compare_indexes e.indexes o.indexes ≡ Greater → joined ≡ other_alone kind limit o → Steps kind limit entries others joined entries os
+    pub steps_greater : compare_indexes e.indexes o.indexes ≡ Greater → joined ≡ other_alone kind limit o
+        → Steps kind limit entries others joined entries os
     steps_greater found is = record {
       few = few;
       is = begins ∙ chosen Greater found ∙ (λ i. sym is i ∷ joined_entries kind limit (sym split i) os);
@@ -155,8 +170,8 @@ module _ (kind : TableKind) (limit : ℕ) where
       can = can_left kind entries o os (subst (CanJoin kind entries) other_split can);
     }
 
-pub counted_more : (es : List Indexed) (e : Indexed) (next : List Indexed) → AllByRecursion HasCountedRows es → HasCountedRows e → next ≡ es ++ e ∷ []
-    → AllByRecursion HasCountedRows next
+pub counted_more : (es : List Indexed) (e : Indexed) (next : List Indexed) → AllByRecursion HasCountedRows es
+    → HasCountedRows e → next ≡ es ++ e ∷ [] → AllByRecursion HasCountedRows next
 counted_more es e next h few pushed = subst (AllByRecursion HasCountedRows) (sym pushed) (more es h)
   where
     more : (fs : List Indexed) → AllByRecursion HasCountedRows fs → AllByRecursion HasCountedRows (fs ++ e ∷ [])

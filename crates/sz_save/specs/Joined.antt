@@ -33,26 +33,30 @@ sums_in overflow = []
 
 -- the least weight first, and of equal weights the lesser value
 abbrev pub least_rows : RowDatum → RowDatum → Ordering
-least_rows = then_cmp (on (λ (row : RowDatum). row.weight) (option_cmp int_cmp)) (on (λ (row : RowDatum). value_in row.shown) (option_cmp compare))
+least_rows = then_cmp (on (λ (row : RowDatum). row.weight) (option_cmp int_cmp))
+    (on (λ (row : RowDatum). value_in row.shown) (option_cmp compare))
 
 -- the greatest weight first, and of equal weights the lesser value
 abbrev pub greatest_rows : RowDatum → RowDatum → Ordering
 greatest_rows =
-    then_cmp (on (λ (row : RowDatum). row.weight) (flip_args (option_cmp int_cmp))) (on (λ (row : RowDatum). value_in row.shown) (option_cmp compare))
+    then_cmp (on (λ (row : RowDatum). row.weight) (flip_args (option_cmp int_cmp)))
+    (on (λ (row : RowDatum). value_in row.shown) (option_cmp compare))
 
 -- the row of both sums, where both sides have one
 abbrev pub joined_sums : List RowDatum → List RowDatum → List RowDatum
 joined_sums [] others = others
 joined_sums (row ∷ rows) [] = row ∷ rows
-joined_sums (row ∷ rows) (other ∷ others) = record { shown = sums (plus (sums_in row.shown) (sums_in other.shown)); weight = None } ∷ []
+joined_sums (row ∷ rows) (other ∷ others) =
+    record { shown = sums (plus (sums_in row.shown) (sums_in other.shown)); weight = None } ∷ []
 
 -- a set has too many values where either side has, or both together
 abbrev pub joined_sets : ℕ → List RowDatum → List RowDatum → List RowDatum
 joined_sets limit rows others =
-    if overflows rows || overflows others then overflow_row ∷ [] else set_rows limit (distinct compare (values_shown rows ++ values_shown others))
+    if overflows rows || overflows others then overflow_row ∷ []
+    else set_rows limit (distinct compare (values_shown rows ++ values_shown others))
 
--- the rows of both sides under one index list, of a table of a kind and a limit: the sums added; the first of all in their order, up to
--- the limit; the distinct values, or that there are too many; or all values in order
+-- the rows of both sides under one index list, of a table of a kind and a limit: the sums added; the first of all in
+-- their order, up to the limit; the distinct values, or that there are too many; or all values in order
 abbrev pub joined_rows : TableKind → ℕ → List RowDatum → List RowDatum → List RowDatum
 joined_rows Sum limit rows others = joined_sums rows others
 joined_rows Maximum limit rows others = take limit (sorted greatest_rows (rows ++ others))
@@ -63,11 +67,13 @@ joined_rows Collection limit rows others = map value_row (sorted compare (values
 -- the rows of a table under an index list, none where it isn't there
 abbrev pub rows_at : List Indexed → List Datum → List RowDatum
 rows_at [] indexes = []
-rows_at (entry ∷ entries) indexes = if is_eq (compare_indexes entry.indexes indexes) then entry.rows else rows_at entries indexes
+rows_at (entry ∷ entries) indexes =
+    if is_eq (compare_indexes entry.indexes indexes) then entry.rows else rows_at entries indexes
 
 -- under each index list the table has the rows of both sides
 pub record JoinsTable (table : Declaration) (entries others both : List Indexed) : Type 0 where
-  pub rows : (indexes : List Datum) → rows_at both indexes ≡ joined_rows table.kind table.limit (rows_at entries indexes) (rows_at others indexes)
+  pub rows : (indexes : List Datum)
+      → rows_at both indexes ≡ joined_rows table.kind table.limit (rows_at entries indexes) (rows_at others indexes)
 
 -- the same of each of the declared tables, of which there are as many on both sides
 abbrev pub JoinTables : List Declaration → List (List Indexed) → List (List Indexed) → List (List Indexed) → Type 0

@@ -38,7 +38,8 @@ abbrev pub is_above : Option (List Datum) → List Datum → Bool
 is_above None later = true
 is_above (Some earlier) later = is_lt (compare_indexes earlier later)
 
--- of a table of sums each row that is kept has `count` sums, none of them further from 0 than `most`; of other kinds nothing is asked
+-- of a table of sums each row that is kept has `count` sums, none of them further from 0 than `most`; of other kinds
+-- nothing is asked
 abbrev pub KeepSums : TableKind → ℕ → ℕ → List Indexed → Type 0
 KeepSums Sum count most kept = AllByRecursion (HasSums count most) kept
 KeepSums Maximum count most kept = ⊤
@@ -46,24 +47,28 @@ KeepSums Minimum count most kept = ⊤
 KeepSums Set count most kept = ⊤
 KeepSums Collection count most kept = ⊤
 
--- The walk over what is kept goes on: what was joined before, and what is joined of these index lists and any others, is what is joined now
--- and what is joined of those that are left and the same others.
-pub record GoesOn (kind : TableKind) (limit : ℕ) (ones : List Indexed) (joined kept : List Indexed) (others : List Indexed)
+-- The walk over what is kept goes on: what was joined before, and what is joined of these index lists and any others,
+-- is what is joined now and what is joined of those that are left and the same others.
+pub record GoesOn (kind : TableKind) (limit : ℕ) (ones : List Indexed) (joined kept : List Indexed)
+    (others : List Indexed)
     (now left : List Indexed) : Type 0 where
-  pub is : (more : List Indexed) → joined ++ joined_entries kind limit kept (ones ++ more) ≡ now ++ joined_entries kind limit left (others ++ more)
+  pub is : (more : List Indexed) → joined ++ joined_entries kind limit kept (ones ++ more)
+      ≡ now ++ joined_entries kind limit left (others ++ more)
   pub cut : ℕ
   pub dropped : left ≡ drop cut kept
   pub few : AllByRecursion HasCountedRows joined → AllByRecursion HasCountedRows now
 
 -- what a table holds was read, and joined to what is kept
-pub record ReadsJoined (bound : ℕ) (table : Declaration) (kept : List Indexed) (flat : List ℕ) (joined : List Indexed) (rest : List ℕ) : Type 0 where
+pub record ReadsJoined (bound : ℕ) (table : Declaration) (kept : List Indexed) (flat : List ℕ) (joined : List Indexed)
+    (rest : List ℕ) : Type 0 where
   pub entries : List Indexed
   pub found : entries_at bound table flat ≡ Some (entries, rest)
   pub is : joined ≡ joined_entries table.kind table.limit kept entries
   pub counted : AreCounted joined
 
 -- the same with the declaration in front
-pub record ReadsTable (bound : ℕ) (table : Declaration) (kept : List Indexed) (flat : List ℕ) (joined : List Indexed) (rest : List ℕ) : Type 0 where
+pub record ReadsTable (bound : ℕ) (table : Declaration) (kept : List Indexed) (flat : List ℕ) (joined : List Indexed)
+    (rest : List ℕ) : Type 0 where
   pub entries : List Indexed
   pub found : table_at bound flat ≡ Some ((table, entries), rest)
   pub is : joined ≡ joined_entries table.kind table.limit kept entries
@@ -106,7 +111,8 @@ pub record ReadsTables (bound : ℕ) (decls : List Declaration) (kept : List (Li
 -- in front there are no tables with these declarations: others, or perhaps none at all
 abbrev pub IsOtherTables : ℕ → List Declaration → List ℕ → Type 0
 IsOtherTables bound decls flat =
-    (tables : List (Declaration × List Indexed)) (rest : List ℕ) → counted_at (table_at bound) flat ≡ Some (tables, rest) → map (λ t. t.0) tables ≢ decls
+    (tables : List (Declaration × List Indexed)) (rest : List ℕ)
+    → counted_at (table_at bound) flat ≡ Some (tables, rest) → map (λ t. t.0) tables ≢ decls
 
 -- why the tables weren't read: there are none, or none that have these declarations
 abbrev pub StopsTables : ℕ → List Declaration → List ℕ → ReadJoinError → Type 0
@@ -114,7 +120,8 @@ StopsTables bound decls flat NotSaved = counted_at (table_at bound) flat ≡ Non
 StopsTables bound decls flat Other = IsOtherTables bound decls flat
 StopsTables bound decls flat NoMemory = ⊤
 
--- why the file wasn't joined: the bytes are those of no state; or those of none that has the declarations of what is kept, and perhaps of none at all
+-- why the file wasn't joined: the bytes are those of no state; or those of none that has the declarations of what is
+-- kept, and perhaps of none at all
 abbrev pub StopsRead : SavedState → List ℕ → ReadJoinError → Type 0
 StopsRead one bytes NotSaved = (state : SavedState) → Saves bytes state → ⊥
 StopsRead one bytes Other = (state : SavedState) → Saves bytes state → state.decls ≢ one.decls

@@ -30,14 +30,19 @@ abbrev pub are_all_low : List Declaration → Bool
 are_all_low [] = true
 are_all_low (d ∷ ds) = is_low d && are_all_low ds
 
--- the rows of each of the declared tables, of which the first has this number, where the table with a number shows these rows
+-- the rows of each of the declared tables, of which the first has this number, where the table with a number shows
+-- these rows
 abbrev pub shown_from : ℕ → List Declaration → (ℕ → List Indexed) → List (List Indexed)
 shown_from number [] rows = []
 shown_from number (d ∷ ds) rows = rows number ∷ shown_from (suc number) ds rows
 
 -- what is saved of a total: its declarations and what each of its tables shows, with a bound on the number of its emits
 abbrev pub state_shown : ℕ → TotalState → SavedState
-state_shown bound total = record { bound = bound; decls = total.tables; tables = shown_from 0 total.tables (shown total) }
+state_shown bound total = record {
+  bound = bound;
+  decls = total.tables;
+  tables = shown_from 0 total.tables (shown total);
+}
 
 -- the tables of emits, numbered from a number on
 abbrev pub tables_from : ℕ → List Declaration → List EmitDatum → List (List Indexed)

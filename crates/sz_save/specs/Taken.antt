@@ -9,6 +9,9 @@ use Rattle.sz_save.specs.Walk.{compare_firsts}
 -- it stood in front of the index lists of the one side, of the other, or of both, and these are left behind it
 abbrev pub Takes : First → List Indexed → List Indexed → List Indexed → List Indexed → Type 0
 Takes Neither entries others after left = (entries ≡ []) × (others ≡ [])
-Takes (One entry) entries others after left = (entries ≡ entry ∷ after) × (left ≡ others) × (compare_firsts entries others ≡ Some Less)
-Takes (Other other) entries others after left = (others ≡ other ∷ left) × (after ≡ entries) × (compare_firsts entries others ≡ Some Greater)
-Takes (Both entry other) entries others after left = (entries ≡ entry ∷ after) × (others ≡ other ∷ left) × (compare_firsts entries others ≡ Some Equal)
+Takes (One entry) entries others after left =
+    (entries ≡ entry ∷ after) × (left ≡ others) × (compare_firsts entries others ≡ Some Less)
+Takes (Other other) entries others after left =
+    (others ≡ other ∷ left) × (after ≡ entries) × (compare_firsts entries others ≡ Some Greater)
+Takes (Both entry other) entries others after left =
+    (entries ≡ entry ∷ after) × (others ≡ other ∷ left) × (compare_firsts entries others ≡ Some Equal)

@@ -31,7 +31,8 @@ abbrev pub against : TableKind → ℕ → Indexed → (List Indexed → List In
 against kind limit entry rest [] = alone kind limit entry ∷ rest []
 against kind limit entry rest (other ∷ others) =
     match_ordering (compare_indexes entry.indexes other.indexes) (alone kind limit entry ∷ rest (other ∷ others))
-    (joined_entry kind limit entry.indexes entry.rows other.rows ∷ rest others) (other_alone kind limit other ∷ against kind limit entry rest others)
+    (joined_entry kind limit entry.indexes entry.rows other.rows ∷ rest others)
+    (other_alone kind limit other ∷ against kind limit entry rest others)
 
 -- the index lists of both sides in ascending order, each with the rows of both
 unfoldable pub joined_entries : TableKind → ℕ → List Indexed → List Indexed → List Indexed
@@ -85,7 +86,8 @@ pub record CanAddAll (entries others : List Indexed) : Type 0 where
   pub each : AllByRecursion (HasSums count most) entries
   pub each_other : AllByRecursion (HasSums count others_most) others
 
--- the index lists of both sides of a kind of table can be joined: sums can be added, and of other kinds nothing is asked
+-- the index lists of both sides of a kind of table can be joined: sums can be added, and of other kinds nothing is
+-- asked
 abbrev pub CanJoin : TableKind → List Indexed → List Indexed → Type 0
 CanJoin Sum entries others = CanAddAll entries others
 CanJoin Maximum entries others = ⊤
@@ -102,7 +104,8 @@ abbrev pub AreCounted : List Indexed → Type 0
 AreCounted entries = IsCount (length entries) × AllByRecursion HasCountedRows entries
 
 -- the first index list of both sides is this one, and these are left behind it on either side
-pub record Steps (kind : TableKind) (limit : ℕ) (entries others : List Indexed) (entry : Indexed) (after left : List Indexed) : Type 0 where
+pub record Steps (kind : TableKind) (limit : ℕ) (entries others : List Indexed) (entry : Indexed)
+    (after left : List Indexed) : Type 0 where
   pub is : joined_entries kind limit entries others ≡ entry ∷ joined_entries kind limit after left
   pub shorter : length after + length left < length entries + length others
   pub can : CanJoin kind after left

@@ -37,7 +37,8 @@ kind_again Minimum rest = refl
 kind_again Set rest = refl
 kind_again Collection rest = refl
 
-kind_sound : (flat : List ℕ) (kind : TableKind) (rest : List ℕ) → kind_at flat ≡ Some (kind, rest) → ⊤ × (flat ≡ kind_byte kind ∷ rest)
+kind_sound : (flat : List ℕ) (kind : TableKind) (rest : List ℕ) → kind_at flat ≡ Some (kind, rest)
+    → ⊤ × (flat ≡ kind_byte kind ∷ rest)
 unfolding kind_at
 kind_sound flat kind rest e =
     let first = then_some (byte_at flat) (λ b mid. in_front (kind_in b) mid) (kind, rest) e in
@@ -48,29 +49,36 @@ pub kind_finds : Finds (λ kind. ⊤) (λ kind. kind_byte kind ∷ []) kind_at
 kind_finds = record { sound = kind_sound; again = λ kind rest h. kind_again kind rest }
 
 pub saved_type_finds : Finds IsSavedType type_bytes saved_type_at
-saved_type_finds = same_finds (type_finds most_height) (λ t h. record { has = h.0; low = h.1 }) (λ t h. (h.has, h.low)) (λ t h. refl)
+saved_type_finds =
+    same_finds (type_finds most_height) (λ t h. record { has = h.0; low = h.1 }) (λ t h. (h.has, h.low)) (λ t h. refl)
 
 types_finds : Finds (λ ts. IsShort (length ts) × AllByRecursion IsSavedType ts) types_bytes types_at
 types_finds = counted_finds length_finds saved_type_finds
 
 -- what stands behind the byte before the type of weights
 abbrev weight_behind : ℕ → List ℕ → Option (Option Shape × List ℕ)
-weight_behind b rest = if b == 0 then Some (None, rest) else only (b == 1) (and_then (saved_type_at rest) (λ t more. Some (Some t, more)))
+weight_behind b rest = if b
+    == 0 then Some (None, rest) else only (b == 1) (and_then (saved_type_at rest) (λ t more. Some (Some t, more)))
 
-weight_sound : (flat : List ℕ) (w : Option Shape) (rest : List ℕ) → weight_at flat ≡ Some (w, rest) → IsSavedWeight w × (flat ≡ weight_bytes w ++ rest)
+weight_sound : (flat : List ℕ) (w : Option Shape) (rest : List ℕ) → weight_at flat ≡ Some (w, rest)
+    → IsSavedWeight w × (flat ≡ weight_bytes w ++ rest)
 unfolding weight_at
 weight_sound flat w rest e =
     let first = then_some (byte_at flat) weight_behind (w, rest) e in
     let byte = byte_some flat first.0 first.1 first.2 in
     ⊎_elim
-    (λ h. carried IsSavedWeight weight_bytes flat None w first.1 rest h.1 tt (byte ∙ (λ i. eqb-true first.0 0 h.0 i ∷ first.1)))
-    (λ h.
-    let parts = only_some (first.0 == 1) (and_then (saved_type_at first.1) (λ t more. Some (Some t, more))) (w, rest) h.1 in
+    (λ h. carried IsSavedWeight weight_bytes flat None w first.1 rest h.1 tt
+    (byte ∙ (λ i. eqb-true first.0 0 h.0 i ∷ first.1))) (λ h.
+    let parts =
+    only_some (first.0 == 1) (and_then (saved_type_at first.1) (λ t more. Some (Some t, more))) (w, rest) h.1 in
     let second = found_first saved_type_finds first.1 (λ t more. Some (Some t, more)) (w, rest) parts.1 in
-    carried IsSavedWeight weight_bytes flat (Some second.0) w second.1 rest second.4 second.2 (byte ∙ (λ i. eqb-true first.0 1 parts.0 i ∷ second.3 i)))
-    (if_some (first.0 == 0) (Some (None, first.1)) (only (first.0 == 1) (and_then (saved_type_at first.1) (λ t more. Some (Some t, more)))) (w, rest) first.3)
+    carried IsSavedWeight weight_bytes flat
+    (Some second.0) w second.1 rest second.4 second.2 (byte ∙ (λ i. eqb-true first.0 1 parts.0 i ∷ second.3 i)))
+    (if_some (first.0 == 0) (Some (None, first.1))
+    (only (first.0 == 1) (and_then (saved_type_at first.1) (λ t more. Some (Some t, more)))) (w, rest) first.3)
 
-weight_again : (w : Option Shape) (rest : List ℕ) → IsSavedWeight w → weight_at (weight_bytes w ++ rest) ≡ Some (w, rest)
+weight_again : (w : Option Shape) (rest : List ℕ) → IsSavedWeight w
+    → weight_at (weight_bytes w ++ rest) ≡ Some (w, rest)
 unfolding weight_at
 weight_again None rest h = refl
 weight_again (Some t) rest h = first_again saved_type_finds t rest (λ t more. Some (Some t, more)) h
@@ -87,9 +95,11 @@ HaveParts p =
     HasName p.0 × (⊤ × (IsShort p.1.1.0 × ((IsShort (length p.1.1.1.0) × AllByRecursion IsSavedType p.1.1.1.0)
     × (IsSavedType p.1.1.1.1.0 × IsSavedWeight p.1.1.1.1.1))))
 
-parts_finds : Finds HaveParts (λ p. declaration_bytes (made_of p)) (both name_at (both kind_at (both length_at (both types_at (both saved_type_at weight_at)))))
+parts_finds : Finds HaveParts (λ p. declaration_bytes (made_of p))
+    (both name_at (both kind_at (both length_at (both types_at (both saved_type_at weight_at)))))
 parts_finds =
-    both_finds name_finds (both_finds kind_finds (both_finds length_finds (both_finds types_finds (both_finds saved_type_finds weight_finds))))
+    both_finds name_finds (both_finds kind_finds
+    (both_finds length_finds (both_finds types_finds (both_finds saved_type_finds weight_finds))))
 
 declaration_sound : (flat : List ℕ) (table : Declaration) (rest : List ℕ) → declaration_at flat ≡ Some (table, rest)
     → IsSavedDeclaration table × (flat ≡ declaration_bytes table ++ rest)
@@ -97,7 +107,8 @@ unfolding declaration_at
 declaration_sound flat table rest e =
     let a = found_first parts_finds flat (λ p mid. if_allowed (made_of p) mid) (table, rest) e in
     let parts = only_some (is_allowed (made_of a.0)) (Some (made_of a.0, a.1)) (table, rest) a.4 in
-    carried IsSavedDeclaration declaration_bytes flat (made_of a.0) table a.1 rest parts.1 (saved_parts a.0 a.2 parts.0) a.3
+    carried IsSavedDeclaration declaration_bytes flat
+    (made_of a.0) table a.1 rest parts.1 (saved_parts a.0 a.2 parts.0) a.3
   where
     saved_parts : (p : Parts) → HaveParts p → is_allowed (made_of p) ≡ true → IsSavedDeclaration (made_of p)
     saved_parts p h allowed = record {
@@ -110,10 +121,12 @@ declaration_sound flat table rest e =
       allowed = allowed;
     }
 
-declaration_again : (table : Declaration) (rest : List ℕ) → IsSavedDeclaration table → declaration_at (declaration_bytes table ++ rest) ≡ Some (table, rest)
+declaration_again : (table : Declaration) (rest : List ℕ) → IsSavedDeclaration table
+    → declaration_at (declaration_bytes table ++ rest) ≡ Some (table, rest)
 unfolding declaration_at
 declaration_again table rest h =
-    first_again parts_finds (parts_of table) rest (λ p mid. if_allowed (made_of p) mid) (h.name, (tt, (h.limit, ((h.few, h.indexes), (h.element, h.weight)))))
+    first_again parts_finds (parts_of table) rest (λ p mid. if_allowed (made_of p) mid)
+    (h.name, (tt, (h.limit, ((h.few, h.indexes), (h.element, h.weight)))))
     ∙ only_true (is_allowed table) (Some (table, rest)) h.allowed
 
 pub declaration_finds : Finds IsSavedDeclaration declaration_bytes declaration_at

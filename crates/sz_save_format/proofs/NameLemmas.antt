@@ -30,16 +30,19 @@ pub string_finds : Finds (λ s. IsShort (length s)) counted_bytes string_at
 unfolding string_at
 string_finds = record { sound = go; again = there }
   where
-    go : (flat s rest : List ℕ) → string_at flat ≡ Some (s, rest) → IsShort (length s) × (flat ≡ counted_bytes s ++ rest)
+    go : (flat s rest : List ℕ) → string_at flat ≡ Some (s, rest)
+        → IsShort (length s) × (flat ≡ counted_bytes s ++ rest)
     go flat s rest e =
-        let first = found_first length_finds flat (λ n mid. only (nat_le n (length mid)) (Some (take n mid, drop n mid))) (s, rest) e in
+        let first = found_first length_finds flat
+        (λ n mid. only (nat_le n (length mid)) (Some (take n mid, drop n mid))) (s, rest) e in
         let n = first.0 in
         let mid = first.1 in
         let parts = only_some (nat_le n (length mid)) (Some (take n mid, drop n mid)) (s, rest) first.4 in
         let same = found_is (take n mid) s (drop n mid) rest parts.1 in
         let long : length s ≡ n = ap length (sym same.0) ∙ length-take-le n mid (leb-true n (length mid) parts.0) in (
           subst IsShort (sym long) first.2,
-          first.3 ∙ (λ i. length_bytes (sym long i) ++ sym (take-append-drop n mid) i) ∙ (λ i. length_bytes (length s) ++ (same.0 i ++ same.1 i))
+          first.3 ∙ (λ i. length_bytes (sym long i) ++ sym (take-append-drop n mid) i)
+              ∙ (λ i. length_bytes (length s) ++ (same.0 i ++ same.1 i))
               ∙ sym (append_assoc (length_bytes (length s)) s rest),
         )
 
@@ -48,7 +51,8 @@ string_finds = record { sound = go; again = there }
         let n = length s in
         let mid = s ++ rest in
         let few : n ≤ length mid = let both = length-append s rest in omega (arith, both) in
-        first_there length_finds n (counted_bytes s ++ rest) mid (λ n mid. only (nat_le n (length mid)) (Some (take n mid, drop n mid))) h
+        first_there length_finds n (counted_bytes s ++ rest) mid
+        (λ n mid. only (nat_le n (length mid)) (Some (take n mid, drop n mid))) h
         (append_assoc (length_bytes n) s rest)
         ∙ only_true (nat_le n (length mid)) (Some (take n mid, drop n mid)) (le-leb n (length mid) few)
         ∙ (λ i. Some (take_at s rest n refl i, drop_at s rest n refl i))
@@ -84,7 +88,8 @@ word_is_low b h = grind (arith, nat_tests)
 
 words_are_ascii : (l : List ℕ) → all_word l ≡ true → IsAscii l
 words_are_ascii [] h = IsAscii-nil
-words_are_ascii (b ∷ l) h = let p = and_parts (is_word b) (all_word l) h in IsAscii-cons b l (word_is_low b p.0) (words_are_ascii l p.1)
+words_are_ascii (b ∷ l) h = let p = and_parts (is_word b) (all_word l) h in
+    IsAscii-cons b l (word_is_low b p.0) (words_are_ascii l p.1)
 
 -- a name is UTF-8
 pub name_is_utf8 : (l : List ℕ) → is_name l ≡ true → IsUtf8 l
@@ -99,7 +104,8 @@ pub name_finds : Finds HasName counted_bytes name_at
 unfolding name_at
 name_finds = record { sound = go; again = there }
   where
-    go : (flat name rest : List ℕ) → name_at flat ≡ Some (name, rest) → HasName name × (flat ≡ counted_bytes name ++ rest)
+    go : (flat name rest : List ℕ) → name_at flat ≡ Some (name, rest)
+        → HasName name × (flat ≡ counted_bytes name ++ rest)
     go flat name rest e =
         let first = found_first string_finds flat (λ s mid. only (is_name s) (Some (s, mid))) (name, rest) e in
         let parts = only_some (is_name first.0) (Some (first.0, first.1)) (name, rest) first.4 in
@@ -110,5 +116,6 @@ name_finds = record { sound = go; again = there }
 
     there : (name rest : List ℕ) → HasName name → name_at (counted_bytes name ++ rest) ≡ Some (name, rest)
     there name rest h =
-        first_there string_finds name (counted_bytes name ++ rest) rest (λ s mid. only (is_name s) (Some (s, mid))) h.short refl
+        first_there string_finds name (counted_bytes name ++ rest) rest
+        (λ s mid. only (is_name s) (Some (s, mid))) h.short refl
         ∙ only_true (is_name name) (Some (name, rest)) (name_tells name h.is)

@@ -18,23 +18,27 @@ use Rattle.sz_save_format.proofs.ValueLemmas.{ordered_rise}
 abbrev text_behind : List ℕ → List ℕ → Option (Datum × List ℕ)
 text_behind s more = only (is_utf8 s) (Some (str s, more))
 
-pub text_read : (flat mid s rest : List ℕ) → tag_at 4 flat ≡ Some (0, mid) → string_at mid ≡ Some (s, rest) → IsUtf8 s → tagged 4 text_at flat ≡ Some (str s, rest)
+pub text_read : (flat mid s rest : List ℕ) → tag_at 4 flat ≡ Some (0, mid) → string_at mid ≡ Some (s, rest) → IsUtf8 s
+    → tagged 4 text_at flat ≡ Some (str s, rest)
 unfolding text_at
 text_read flat mid s rest e f utf8 =
     ap (λ o. and_then o (λ _ l. and_then (string_at l) text_behind)) e ∙ ap (λ o. and_then o text_behind) f
     ∙ only_true (is_utf8 s) (Some (str s, rest)) (is_utf8-from_IsUtf8 s utf8)
 
-pub text_refused : (flat mid s rest : List ℕ) → tag_at 4 flat ≡ Some (0, mid) → string_at mid ≡ Some (s, rest) → ¬ (IsUtf8 s) → tagged 4 text_at flat ≡ None
+pub text_refused : (flat mid s rest : List ℕ) → tag_at 4 flat ≡ Some (0, mid) → string_at mid ≡ Some (s, rest)
+    → ¬ (IsUtf8 s) → tagged 4 text_at flat ≡ None
 unfolding text_at
 text_refused flat mid s rest e f bad =
-    ap (λ o. and_then o (λ _ l. and_then (string_at l) text_behind)) e ∙ ap (λ o. and_then o text_behind) f ∙ by (is_utf8 s) refl
+    ap (λ o. and_then o (λ _ l. and_then (string_at l) text_behind)) e ∙ ap (λ o. and_then o text_behind) f
+    ∙ by (is_utf8 s) refl
   where
     by : (b : Bool) → is_utf8 s ≡ b → only {X = Datum × List ℕ} b (Some (str s, rest)) ≡ None
     by true is = absurd (bad (IsUtf8-from_is_utf8 s is))
     by false is = refl
 
-pub map_read : (key value : Decoder Datum) (flat mid : List ℕ) (ps made : List (Datum × Datum)) (rest : List ℕ) → tag_at 8 flat ≡ Some (0, mid)
-    → counted_at (pair_at key value) mid ≡ Some (ps, rest) → in_order key_may_follow ps ≡ true → made ≡ with_pairs [] ps
+pub map_read : (key value : Decoder Datum) (flat mid : List ℕ) (ps made : List (Datum × Datum)) (rest : List ℕ)
+    → tag_at 8 flat ≡ Some (0, mid) → counted_at (pair_at key value) mid ≡ Some (ps, rest)
+    → in_order key_may_follow ps ≡ true → made ≡ with_pairs [] ps
     → tagged 8 (mapping_at key value) flat ≡ Some (mapping (entries_of made), rest)
 unfolding mapping_at
 map_read key value flat mid ps made rest e f rise is =
@@ -43,7 +47,8 @@ map_read key value flat mid ps made rest e f rise is =
     ∙ only_true (in_order key_may_follow ps) (Some (mapping (entries_of ps), rest)) rise
     ∙ (λ i. Some (mapping (entries_of (sym (is ∙ made_of_rising ps (ordered_rise ps rise)) i)), rest))
 
-module _ (count : ℕ) (parts : Decoder (List Datum)) (flat mid : List ℕ) (n : ℕ) (behind : List ℕ) (e : tag_at 7 flat ≡ Some (0, mid))
+module _ (count : ℕ) (parts : Decoder (List Datum)) (flat mid : List ℕ) (n : ℕ) (behind : List ℕ)
+    (e : tag_at 7 flat ≡ Some (0, mid))
     (f : length_at mid ≡ Some (n, behind)) where
   abbrev count_behind : ℕ → List ℕ → Option (Datum × List ℕ)
   count_behind m more = only (m == count) (and_then (parts more) (λ ds end. Some (tuple (data_of ds), end)))
@@ -55,17 +60,20 @@ module _ (count : ℕ) (parts : Decoder (List Datum)) (flat mid : List ℕ) (n :
   pub tuple_refused : ¬ (n ≡ count) → tagged 7 (tuple_at count parts) flat ≡ None
   tuple_refused apart = to_count ∙ by (n == count) refl
     where
-      by : (b : Bool) → (n == count) ≡ b → only b (and_then (parts behind) (λ ds end. Some (tuple (data_of ds), end))) ≡ None
+      by : (b : Bool) → (n == count) ≡ b
+          → only b (and_then (parts behind) (λ ds end. Some (tuple (data_of ds), end))) ≡ None
       by true is = absurd (apart (grind (arith, is)))
       by false is = refl
 
-  pub tuple_read : (ds : List Datum) (rest : List ℕ) → n ≡ count → parts behind ≡ Some (ds, rest) → tagged 7 (tuple_at count parts) flat ≡ Some (tuple (data_of ds), rest)
+  pub tuple_read : (ds : List Datum) (rest : List ℕ) → n ≡ count → parts behind ≡ Some (ds, rest)
+      → tagged 7 (tuple_at count parts) flat ≡ Some (tuple (data_of ds), rest)
   tuple_read ds rest same g =
-      to_count ∙ only_true (n == count) (and_then (parts behind) (λ es end. Some (tuple (data_of es), end))) (eq-eqb n count same)
-      ∙ ap (λ o. and_then o (λ es end. Some (tuple (data_of es), end))) g
+      to_count ∙ only_true (n == count) (and_then (parts behind) (λ es end. Some (tuple (data_of es), end)))
+      (eq-eqb n count same) ∙ ap (λ o. and_then o (λ es end. Some (tuple (data_of es), end))) g
 
 -- no field's type is higher than the highest
-pub field_low : (fields : List Field) (i : ℕ) (f : Field) → i < length fields → f ≡ get_or fields i f → height (seen f.ty) ≤ tallest (fields_of (map seen_field fields))
+pub field_low : (fields : List Field) (i : ℕ) (f : Field) → i < length fields → f ≡ get_or fields i f
+    → height (seen f.ty) ≤ tallest (fields_of (map seen_field fields))
 field_low [] i f less is = absurd (omega (arith, less))
 field_low (g ∷ fields) zero f less is = omega (arith, ap (λ (h : Field). height (seen h.ty)) is)
 field_low (g ∷ fields) (suc i) f less is = omega (arith, field_low fields i f (omega (arith, less)) is)

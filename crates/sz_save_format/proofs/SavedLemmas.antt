@@ -21,21 +21,26 @@ module _ (bound : ℕ) (low : bound ≤ 2 ^ 63) where
   abbrev entries_behind : Declaration → List ℕ → Option ((Declaration × List Indexed) × List ℕ)
   entries_behind table rest = and_then (entries_at bound table rest) (λ entries more. Some ((table, entries), more))
 
-  table_sound : (flat : List ℕ) (table : Declaration × List Indexed) (rest : List ℕ) → table_at bound flat ≡ Some (table, rest)
-      → IsSavedTable bound table × (flat ≡ table_bytes table ++ rest)
+  table_sound : (flat : List ℕ) (table : Declaration × List Indexed) (rest : List ℕ)
+      → table_at bound flat ≡ Some (table, rest) → IsSavedTable bound table × (flat ≡ table_bytes table ++ rest)
   unfolding table_at
   table_sound flat table rest e =
       let a = found_first declaration_finds flat entries_behind (table, rest) e in
-      let b = found_first (entries_finds bound a.0 low a.2.limit) a.1 (λ entries more. Some ((a.0, entries), more)) (table, rest) a.4 in
-      carried (IsSavedTable bound) table_bytes flat (a.0, b.0) table b.1 rest b.4 (record { declaration = a.2; entries = b.2 })
+      let b = found_first (entries_finds bound a.0 low a.2.limit) a.1 (λ entries more. Some ((a.0, entries), more))
+      (table, rest) a.4 in
+      carried (IsSavedTable bound) table_bytes flat
+      (a.0, b.0) table b.1 rest b.4 (record { declaration = a.2; entries = b.2 })
       (two_parts flat (declaration_bytes a.0) a.1 (entries_bytes a.0.kind b.0) b.1 a.3 b.3)
 
-  table_again : (table : Declaration × List Indexed) (rest : List ℕ) → IsSavedTable bound table → table_at bound (table_bytes table ++ rest) ≡ Some (table, rest)
+  table_again : (table : Declaration × List Indexed) (rest : List ℕ) → IsSavedTable bound table
+      → table_at bound (table_bytes table ++ rest) ≡ Some (table, rest)
   unfolding table_at
   table_again table rest h =
-      first_there declaration_finds table.0 (table_bytes table ++ rest) (entries_bytes table.0.kind table.1 ++ rest) entries_behind h.declaration
+      first_there declaration_finds table.0 (table_bytes table ++ rest)
+      (entries_bytes table.0.kind table.1 ++ rest) entries_behind h.declaration
       (append_assoc (declaration_bytes table.0) (entries_bytes table.0.kind table.1) rest)
-      ∙ first_again (entries_finds bound table.0 low h.declaration.limit) table.1 rest (λ entries more. Some ((table.0, entries), more)) h.entries
+      ∙ first_again (entries_finds bound table.0 low h.declaration.limit) table.1 rest
+      (λ entries more. Some ((table.0, entries), more)) h.entries
 
   pub table_finds : Finds (IsSavedTable bound) table_bytes (table_at bound)
   table_finds = record { sound = table_sound; again = table_again }
@@ -51,7 +56,8 @@ mark_found flat x rest e =
 mark_again : (rest : List ℕ) → mark_at (mark ++ rest) ≡ Some (0, rest)
 unfolding mark_at
 mark_again rest = only_true (nat_le 8 (length (mark ++ rest)) && bytes_eq (take 8 (mark ++ rest)) mark) (Some (0, rest))
-    (and_from (nat_le 8 (length (mark ++ rest))) (bytes_eq mark mark) (le-leb 8 (length (mark ++ rest)) (let both = length-append mark rest in omega (arith, both)))
+    (and_from (nat_le 8 (length (mark ++ rest))) (bytes_eq mark mark)
+    (le-leb 8 (length (mark ++ rest)) (let both = length-append mark rest in omega (arith, both)))
     ((bytes_eq-Decides mark mark).1 refl))
 
 -- declarations and tables as pairs, and back
@@ -91,7 +97,8 @@ state_behind bound tables rest = only (length rest == 0) (Some (state_with bound
 abbrev tables_behind : ℕ → List ℕ → Option (SavedState × List ℕ)
 tables_behind bound rest = and_then (counted_at (table_at bound) rest) (state_behind bound)
 
-head_found : (flat : List ℕ) (bound : ℕ) (rest : List ℕ) → head_at flat ≡ Some (bound, rest) → (bound ≤ 2 ^ 63) × (flat ≡ mark ++ (count_bytes bound ++ rest))
+head_found : (flat : List ℕ) (bound : ℕ) (rest : List ℕ) → head_at flat ≡ Some (bound, rest)
+    → (bound ≤ 2 ^ 63) × (flat ≡ mark ++ (count_bytes bound ++ rest))
 unfolding head_at
 head_found flat bound rest e =
     let a = then_some (mark_at flat) mark_behind (bound, rest) e in
@@ -100,7 +107,8 @@ head_found flat bound rest e =
     let is = carried (λ n. n ≤ 2 ^ 63) count_bytes a.1 b.0 bound b.1 rest c.1 (leb-true b.0 most_bound c.0) b.3 in
     (is.0, mark_found flat a.0 a.1 a.2 ∙ ap (λ l. mark ++ l) is.1)
 
-head_again : (bound : ℕ) (rest : List ℕ) → bound ≤ 2 ^ 63 → head_at (mark ++ (count_bytes bound ++ rest)) ≡ Some (bound, rest)
+head_again : (bound : ℕ) (rest : List ℕ) → bound ≤ 2 ^ 63
+    → head_at (mark ++ (count_bytes bound ++ rest)) ≡ Some (bound, rest)
 unfolding head_at
 head_again bound rest low =
     ap (λ o. and_then o mark_behind) (mark_again (count_bytes bound ++ rest))
@@ -108,7 +116,8 @@ head_again bound rest low =
     ∙ only_true (nat_le bound most_bound) (Some (bound, rest)) (le-leb bound most_bound low)
 
 -- what is read behind the bound, all of it, is saved so
-pub tables_save : (flat : List ℕ) (bound : ℕ) (rest : List ℕ) (tables : List (Declaration × List Indexed)) (left : List ℕ) → head_at flat ≡ Some (bound, rest)
+pub tables_save : (flat : List ℕ) (bound : ℕ) (rest : List ℕ) (tables : List (Declaration × List Indexed))
+    (left : List ℕ) → head_at flat ≡ Some (bound, rest)
     → counted_at (table_at bound) rest ≡ Some (tables, left) → left ≡ [] → Saves flat (state_with bound tables)
 tables_save flat bound rest tables left e f none =
     let head = head_found flat bound rest e in
@@ -125,7 +134,9 @@ tables_save flat bound rest tables left e f none =
       is =
           head.1 ∙ (λ i. mark ++ (count_bytes bound ++ found.1 i))
           ∙ (λ i. mark ++ (count_bytes bound ++ ((length_bytes (many i) ++ flat_map table_bytes (again i)) ++ none i)))
-          ∙ (λ i. mark ++ (count_bytes bound ++ append-nil (length_bytes (length (map (λ (t : Declaration × List Indexed). t.0) tables)) ++ flat_map table_bytes (tables_of (state_with bound tables))) i));
+          ∙ (λ i. mark ++ (count_bytes bound
+          ++ append-nil (length_bytes (length (map (λ (t : Declaration × List Indexed). t.0) tables))
+          ++ flat_map table_bytes (tables_of (state_with bound tables))) i));
     }
 
 -- what can be saved is found
@@ -141,11 +152,13 @@ saved_again saved h =
     ap (λ o. and_then o tables_behind) (head_again bound behind h.bound)
     ∙ first_there (counted_finds length_finds (table_finds bound h.bound)) tables behind [] (state_behind bound)
     (subst IsShort (sym many) h.few, h.each)
-    ((λ i. length_bytes (sym many i) ++ flat_map table_bytes tables) ∙ sym (append-nil (length_bytes (length tables) ++ flat_map table_bytes tables)))
+    ((λ i. length_bytes (sym many i) ++ flat_map table_bytes tables)
+    ∙ sym (append-nil (length_bytes (length tables) ++ flat_map table_bytes tables)))
     ∙ (λ i. Some (record { bound = bound; decls = firsts_are i; tables = seconds_are i }, []))
 
 -- the same of declarations and rows that stand apart
-pub lists_save : (flat : List ℕ) (bound : ℕ) (rest : List ℕ) (ds : List Declaration) (ts : List (List Indexed)) (left : List ℕ) → head_at flat ≡ Some (bound, rest)
+pub lists_save : (flat : List ℕ) (bound : ℕ) (rest : List ℕ) (ds : List Declaration) (ts : List (List Indexed))
+    (left : List ℕ) → head_at flat ≡ Some (bound, rest)
     → counted_at (table_at bound) rest ≡ Some (zip ds ts, left) → length ts ≡ length ds → left ≡ []
     → Saves flat (record { bound = bound; decls = ds; tables = ts })
 lists_save flat bound rest ds ts left e f long none =
@@ -157,11 +170,13 @@ pub no_head : (flat : List ℕ) → head_at flat ≡ None → saved_at flat ≡ 
 unfolding saved_at
 no_head flat none = ap (λ o. and_then o tables_behind) none
 
-pub no_tables : (flat : List ℕ) (bound : ℕ) (rest : List ℕ) → head_at flat ≡ Some (bound, rest) → counted_at (table_at bound) rest ≡ None → saved_at flat ≡ None
+pub no_tables : (flat : List ℕ) (bound : ℕ) (rest : List ℕ) → head_at flat ≡ Some (bound, rest)
+    → counted_at (table_at bound) rest ≡ None → saved_at flat ≡ None
 unfolding saved_at
 no_tables flat bound rest e none = ap (λ o. and_then o tables_behind) e ∙ ap (λ o. and_then o (state_behind bound)) none
 
-pub no_end : (flat : List ℕ) (bound : ℕ) (rest : List ℕ) (tables : List (Declaration × List Indexed)) (left : List ℕ) → head_at flat ≡ Some (bound, rest)
+pub no_end : (flat : List ℕ) (bound : ℕ) (rest : List ℕ) (tables : List (Declaration × List Indexed)) (left : List ℕ)
+    → head_at flat ≡ Some (bound, rest)
     → counted_at (table_at bound) rest ≡ Some (tables, left) → (length left == 0) ≡ false → saved_at flat ≡ None
 unfolding saved_at
 no_end flat bound rest tables left e f more =
@@ -169,8 +184,8 @@ no_end flat bound rest tables left e f more =
     ∙ ap (λ b. only b (Some (state_with bound tables, left))) more
 
 -- tables in the order in which they are read
-pub zip_more : (ds : List Declaration) (ts : List (List Indexed)) (d : Declaration) (t : List Indexed) → length ts ≡ length ds
-    → zip (ds ++ d ∷ []) (ts ++ t ∷ []) ≡ zip ds ts ++ (d, t) ∷ []
+pub zip_more : (ds : List Declaration) (ts : List (List Indexed)) (d : Declaration) (t : List Indexed)
+    → length ts ≡ length ds → zip (ds ++ d ∷ []) (ts ++ t ∷ []) ≡ zip ds ts ++ (d, t) ∷ []
 zip_more [] [] d t long = refl
 zip_more [] (u ∷ ts) d t long = absurd (omega (arith, long))
 zip_more (e ∷ ds) [] d t long = absurd (omega (arith, long))
@@ -183,4 +198,5 @@ nothing_saves flat none saved h = none_some (sym none ∙ ap saved_at h.is ∙ s
 -- no bytes are saved as two states
 pub one_spelling : IsOneSpelling
 one_spelling flat first second h k =
-    (found_is first second [] [] (sym (saved_again first h.can) ∙ ap saved_at (sym h.is ∙ k.is) ∙ saved_again second k.can)).0
+    (found_is first second [] []
+    (sym (saved_again first h.can) ∙ ap saved_at (sym h.is ∙ k.is) ∙ saved_again second k.can)).0

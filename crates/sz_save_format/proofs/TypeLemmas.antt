@@ -34,21 +34,27 @@ encoding_again Fixed64 = refl
 abbrev numbering_bytes : Bool → ℕ × Encoding → List ℕ
 numbering_bytes numbered n = if numbered then number_and_code n.0 n.1 else []
 
-numbering_sound : (numbered : Bool) (flat : List ℕ) (n : ℕ × Encoding) (rest : List ℕ) → numbering_at numbered flat ≡ Some (n, rest)
+numbering_sound : (numbered : Bool) (flat : List ℕ) (n : ℕ × Encoding) (rest : List ℕ)
+    → numbering_at numbered flat ≡ Some (n, rest)
     → HasNumber numbered n.0 n.1 × (flat ≡ numbering_bytes numbered n ++ rest)
 unfolding numbering_at
 numbering_sound false flat n rest e =
     let same = found_is (0, Plain) n flat rest e in
     (subst (λ m. HasNumber false m.0 m.1) same.0 (refl, refl), same.1)
 numbering_sound true flat n rest e =
-    let first = found_first length_finds flat (λ number mid. and_then (byte_at mid) (λ code more. and_then (in_front (encoding_in code) more) (λ way end. Some ((number, way), end)))) (n, rest) e in
-    let second = then_some (byte_at first.1) (λ code more. and_then (in_front (encoding_in code) more) (λ way end. Some ((first.0, way), end))) (n, rest) first.4 in
-    let third = then_some (in_front (encoding_in second.0) second.1) (λ way end. Some ((first.0, way), end)) (n, rest) second.3 in
+    let first = found_first length_finds flat (λ number mid. and_then (byte_at mid)
+    (λ code more. and_then (in_front (encoding_in code) more) (λ way end. Some ((number, way), end)))) (n, rest) e in
+    let second = then_some (byte_at first.1) (λ code more.
+    and_then (in_front (encoding_in code) more) (λ way end. Some ((first.0, way), end))) (n, rest) first.4 in
+    let third =
+    then_some (in_front (encoding_in second.0) second.1) (λ way end. Some ((first.0, way), end)) (n, rest) second.3 in
     let found = in_front_some (encoding_in second.0) second.1 third.0 third.1 third.2 in
     let code = encoding_told second.0 third.0 found.0 in
     let byte = byte_some first.1 second.0 second.1 second.2 in
-    carried (λ (m : ℕ × Encoding). IsShort m.0) (numbering_bytes true) flat (first.0, third.0) n third.1 rest third.3 first.2
-    (two_parts flat (length_bytes first.0) first.1 (encoding_number third.0 ∷ []) third.1 first.3 (byte ∙ (λ i. code i ∷ found.1 i)))
+    carried (λ (m : ℕ × Encoding). IsShort m.0) (numbering_bytes true) flat
+    (first.0, third.0) n third.1 rest third.3 first.2
+    (two_parts flat
+    (length_bytes first.0) first.1 (encoding_number third.0 ∷ []) third.1 first.3 (byte ∙ (λ i. code i ∷ found.1 i)))
 
 numbering_again : (numbered : Bool) (n : ℕ × Encoding) (rest : List ℕ) → HasNumber numbered n.0 n.1
     → numbering_at numbered (numbering_bytes numbered n ++ rest) ≡ Some (n, rest)
@@ -56,11 +62,13 @@ unfolding numbering_at
 numbering_again false n rest h = λ i. Some ((sym h.0 i, sym h.1 i), rest)
 numbering_again true n rest h =
     first_there length_finds n.0 (numbering_bytes true n ++ rest) (encoding_number n.1 ∷ rest)
-    (λ number mid. and_then (byte_at mid) (λ code more. and_then (in_front (encoding_in code) more) (λ way end. Some ((number, way), end)))) h
+    (λ number mid. and_then (byte_at mid)
+    (λ code more. and_then (in_front (encoding_in code) more) (λ way end. Some ((number, way), end)))) h
     (append_assoc (length_bytes n.0) (encoding_number n.1 ∷ []) rest)
     ∙ ap (λ o. and_then (in_front o rest) (λ way end. Some ((n.0, way), end))) (encoding_again n.1)
 
-numbering_finds : (numbered : Bool) → Finds (λ n. HasNumber numbered n.0 n.1) (numbering_bytes numbered) (numbering_at numbered)
+numbering_finds : (numbered : Bool)
+    → Finds (λ n. HasNumber numbered n.0 n.1) (numbering_bytes numbered) (numbering_at numbered)
 numbering_finds numbered = record { sound = numbering_sound numbered; again = numbering_again numbered }
 
 -- a type of at most so many levels has its bytes
@@ -72,23 +80,31 @@ abbrev HasField : Bool → ℕ → FieldShape → Type 0
 HasField numbered levels (field name t number code) = HasName name × HasAt levels t × HasNumber numbered number code
 
 module _ (numbered : Bool) (levels : ℕ) (inner : Finds (HasAt levels) type_bytes (type_at levels)) where
-  field_sound : (flat : List ℕ) (f : FieldShape) (rest : List ℕ) → field_at numbered (type_at levels) flat ≡ Some (f, rest)
+  field_sound : (flat : List ℕ) (f : FieldShape) (rest : List ℕ)
+      → field_at numbered (type_at levels) flat ≡ Some (f, rest)
       → HasField numbered levels f × (flat ≡ field_bytes numbered f ++ rest)
   unfolding field_at
   field_sound flat f rest e =
-      let first = found_first name_finds flat (λ name mid. and_then (type_at levels mid) (λ t more. and_then (numbering_at numbered more) (λ n end. Some (field name t n.0 n.1, end)))) (f, rest) e in
-      let second = found_first inner first.1 (λ t more. and_then (numbering_at numbered more) (λ n end. Some (field first.0 t n.0 n.1, end))) (f, rest) first.4 in
-      let third = found_first (numbering_finds numbered) second.1 (λ n end. Some (field first.0 second.0 n.0 n.1, end)) (f, rest) second.4 in
-      carried (HasField numbered levels) (field_bytes numbered) flat (field first.0 second.0 third.0.0 third.0.1) f third.1 rest third.4 (first.2, second.2, third.2)
-      (two_parts flat (counted_bytes first.0) first.1 (type_bytes second.0 ++ numbering_bytes numbered third.0) third.1 first.3
+      let first = found_first name_finds flat (λ name mid. and_then (type_at levels mid)
+      (λ t more. and_then (numbering_at numbered more) (λ n end. Some (field name t n.0 n.1, end)))) (f, rest) e in
+      let second = found_first inner first.1 (λ t more.
+      and_then (numbering_at numbered more) (λ n end. Some (field first.0 t n.0 n.1, end))) (f, rest) first.4 in
+      let third = found_first (numbering_finds numbered) second.1
+      (λ n end. Some (field first.0 second.0 n.0 n.1, end)) (f, rest) second.4 in
+      carried (HasField numbered levels) (field_bytes numbered) flat
+      (field first.0 second.0 third.0.0 third.0.1) f third.1 rest third.4 (first.2, second.2, third.2)
+      (two_parts flat
+      (counted_bytes first.0) first.1 (type_bytes second.0 ++ numbering_bytes numbered third.0) third.1 first.3
       (two_parts first.1 (type_bytes second.0) second.1 (numbering_bytes numbered third.0) third.1 second.3 third.3))
 
-  field_again : (f : FieldShape) (rest : List ℕ) → HasField numbered levels f → field_at numbered (type_at levels) (field_bytes numbered f ++ rest) ≡ Some (f, rest)
+  field_again : (f : FieldShape) (rest : List ℕ) → HasField numbered levels f
+      → field_at numbered (type_at levels) (field_bytes numbered f ++ rest) ≡ Some (f, rest)
   unfolding field_at
   field_again (field name t number code) rest h =
       let tail = type_bytes t ++ numbering_bytes numbered (number, code) in
       first_there name_finds name ((counted_bytes name ++ tail) ++ rest) (tail ++ rest)
-      (λ name mid. and_then (type_at levels mid) (λ t more. and_then (numbering_at numbered more) (λ n end. Some (field name t n.0 n.1, end)))) h.0
+      (λ name mid. and_then (type_at levels mid)
+      (λ t more. and_then (numbering_at numbered more) (λ n end. Some (field name t n.0 n.1, end)))) h.0
       (append_assoc (counted_bytes name) tail rest)
       ∙ first_there inner t (tail ++ rest) (numbering_bytes numbered (number, code) ++ rest)
       (λ t more. and_then (numbering_at numbered more) (λ n end. Some (field name t n.0 n.1, end))) h.1
@@ -115,9 +131,11 @@ pub count_of : (fs : List FieldShape) → field_count (fields_of fs) ≡ length 
 count_of [] = refl
 count_of (f ∷ fs) = omega (arith, count_of fs)
 
-pub bytes_of : (numbered : Bool) (fs : List FieldShape) → fields_bytes numbered (fields_of fs) ≡ flat_map (field_bytes numbered) fs
+pub bytes_of : (numbered : Bool) (fs : List FieldShape)
+    → fields_bytes numbered (fields_of fs) ≡ flat_map (field_bytes numbered) fs
 bytes_of numbered [] = refl
-bytes_of numbered (field name t number code ∷ fs) = ap (λ l. field_bytes numbered (field name t number code) ++ l) (bytes_of numbered fs)
+bytes_of numbered (field name t number code ∷ fs) =
+    ap (λ l. field_bytes numbered (field name t number code) ++ l) (bytes_of numbered fs)
 
 have_of : (numbered : Bool) (levels : ℕ) (fs : List FieldShape) → AllByRecursion (HasField numbered levels) fs
     → HaveFieldBytes numbered (fields_of fs) × (tallest (fields_of fs) ≤ levels)
@@ -126,15 +144,16 @@ have_of numbered levels (field name t number code ∷ fs) h =
     let later = have_of numbered levels fs h.1 in
     (((h.0.0, h.0.1.0, h.0.2), later.0), omega (arith, later.1, h.0.1.1))
 
-of_have : (numbered : Bool) (levels : ℕ) (fields : FieldShapes) → HaveFieldBytes numbered fields → tallest fields ≤ levels
-    → AllByRecursion (HasField numbered levels) (list_of fields)
+of_have : (numbered : Bool) (levels : ℕ) (fields : FieldShapes) → HaveFieldBytes numbered fields
+    → tallest fields ≤ levels → AllByRecursion (HasField numbered levels) (list_of fields)
 of_have numbered levels no_fields h low = tt
 of_have numbered levels (with_field (field name t number code) fields) h low =
     ((h.0.0, (h.0.1, omega (arith, low)), h.0.2), of_have numbered levels fields h.1 (omega (arith, low)))
 
 -- the bytes of fields are those of the list
 listed_bytes : (numbered : Bool) (fields : FieldShapes)
-    → length_bytes (field_count fields) ++ fields_bytes numbered fields ≡ length_bytes (length (list_of fields)) ++ flat_map (field_bytes numbered) (list_of fields)
+    → length_bytes (field_count fields) ++ fields_bytes numbered fields ≡ length_bytes (length (list_of fields))
+    ++ flat_map (field_bytes numbered) (list_of fields)
 listed_bytes numbered fields =
     let same = fields_again fields in
     (λ i. length_bytes (field_count (sym same i)) ++ fields_bytes numbered (sym same i))
@@ -160,20 +179,27 @@ module _ (levels : ℕ) (inner : Finds (HasAt levels) type_bytes (type_at levels
   Found kind mid t rest = HasAt (suc levels) t × (kind ∷ mid ≡ type_bytes t ++ rest)
 
   module _ (kind : ℕ) (mid : List ℕ) (t : Shape) (rest : List ℕ) where
-    basic : (s : Shape) (number : ℕ) → HasAt (suc levels) s → type_bytes s ≡ number ∷ [] → SameFound s t mid rest → kind ≡ number → Found kind mid t rest
+    basic : (s : Shape) (number : ℕ) → HasAt (suc levels) s → type_bytes s ≡ number ∷ [] → SameFound s t mid rest
+        → kind ≡ number → Found kind mid t rest
     basic s number has is e same =
-        carried (HasAt (suc levels)) type_bytes (kind ∷ mid) s t mid rest e has ((λ i. same i ∷ mid) ∙ ap (λ l. l ++ mid) (sym is))
+        carried (HasAt (suc levels)) type_bytes (kind ∷ mid) s t mid rest e has
+        ((λ i. same i ∷ mid) ∙ ap (λ l. l ++ mid) (sym is))
 
-    array_found : and_then (type_at levels mid) (λ s more. Some (Shape.array s, more)) ≡ Some (t, rest) → kind ≡ 6 → Found kind mid t rest
+    array_found : and_then (type_at levels mid) (λ s more. Some (Shape.array s, more)) ≡ Some (t, rest) → kind ≡ 6
+        → Found kind mid t rest
     array_found e same =
         let first = found_first inner mid (λ s more. Some (Shape.array s, more)) (t, rest) e in
         let low = first.2.1 in
-        carried (HasAt (suc levels)) type_bytes (kind ∷ mid) (Shape.array first.0) t first.1 rest first.4 (first.2.0, omega (arith, low))
+        carried (HasAt (suc levels)) type_bytes (kind ∷ mid)
+        (Shape.array first.0) t first.1 rest first.4 (first.2.0, omega (arith, low))
         (λ i. same i ∷ first.3 i)
 
-    mapping_found : and_then (type_at levels mid) (λ k more. and_then (type_at levels more) (λ v end. Some (Shape.mapping k v, end))) ≡ Some (t, rest) → kind ≡ 8 → Found kind mid t rest
+    mapping_found : and_then (type_at levels mid)
+        (λ k more. and_then (type_at levels more) (λ v end. Some (Shape.mapping k v, end))) ≡ Some (t, rest)
+        → kind ≡ 8 → Found kind mid t rest
     mapping_found e same =
-        let first = found_first inner mid (λ k more. and_then (type_at levels more) (λ v end. Some (Shape.mapping k v, end))) (t, rest) e in
+        let first = found_first inner mid
+        (λ k more. and_then (type_at levels more) (λ v end. Some (Shape.mapping k v, end))) (t, rest) e in
         let second = found_first inner first.1 (λ v end. Some (Shape.mapping first.0 v, end)) (t, rest) first.4 in
         let low = first.2.1 in
         let below = second.2.1 in
@@ -181,25 +207,32 @@ module _ (levels : ℕ) (inner : Finds (HasAt levels) type_bytes (type_at levels
         ((first.2.0, second.2.0), omega (arith, low, below))
         (λ i. same i ∷ two_parts mid (type_bytes first.0) first.1 (type_bytes second.0) second.1 first.3 second.3 i)
 
-    tuple_found : and_then (fields_at false (type_at levels) mid) (λ fs more. Some (Shape.tuple (fields_of fs), more)) ≡ Some (t, rest) → kind ≡ 7 → Found kind mid t rest
+    tuple_found : and_then (fields_at false (type_at levels) mid) (λ fs more. Some (Shape.tuple (fields_of fs), more))
+        ≡ Some (t, rest) → kind ≡ 7 → Found kind mid t rest
     tuple_found e same =
-        let first = found_first (fields_finds false levels inner) mid (λ fs more. Some (Shape.tuple (fields_of fs), more)) (t, rest) e in
+        let first = found_first (fields_finds false levels inner) mid
+        (λ fs more. Some (Shape.tuple (fields_of fs), more)) (t, rest) e in
         let have = have_of false levels first.0 first.2.1 in
         let low = have.1 in
         carried (HasAt (suc levels)) type_bytes (kind ∷ mid) (Shape.tuple (fields_of first.0)) t first.1 rest first.4
         ((subst IsShort (sym (count_of first.0)) first.2.0, have.0), omega (arith, low))
-        ((λ i. same i ∷ first.3 i) ∙ (λ i. 7 ∷ (length_bytes (sym (count_of first.0) i) ++ sym (bytes_of false first.0) i) ++ first.1))
+        ((λ i. same i ∷ first.3 i)
+        ∙ (λ i. 7 ∷ (length_bytes (sym (count_of first.0) i) ++ sym (bytes_of false first.0) i) ++ first.1))
 
-    proto_found : and_then (fields_at true (type_at levels) mid) (λ fs more. Some (Shape.proto (fields_of fs), more)) ≡ Some (t, rest) → kind ≡ 9 → Found kind mid t rest
+    proto_found : and_then (fields_at true (type_at levels) mid) (λ fs more. Some (Shape.proto (fields_of fs), more))
+        ≡ Some (t, rest) → kind ≡ 9 → Found kind mid t rest
     proto_found e same =
-        let first = found_first (fields_finds true levels inner) mid (λ fs more. Some (Shape.proto (fields_of fs), more)) (t, rest) e in
+        let first = found_first (fields_finds true levels inner) mid
+        (λ fs more. Some (Shape.proto (fields_of fs), more)) (t, rest) e in
         let have = have_of true levels first.0 first.2.1 in
         let low = have.1 in
         carried (HasAt (suc levels)) type_bytes (kind ∷ mid) (Shape.proto (fields_of first.0)) t first.1 rest first.4
         ((subst IsShort (sym (count_of first.0)) first.2.0, have.0), omega (arith, low))
-        ((λ i. same i ∷ first.3 i) ∙ (λ i. 9 ∷ (length_bytes (sym (count_of first.0) i) ++ sym (bytes_of true first.0) i) ++ first.1))
+        ((λ i. same i ∷ first.3 i)
+        ∙ (λ i. 9 ∷ (length_bytes (sym (count_of first.0) i) ++ sym (bytes_of true first.0) i) ++ first.1))
 
-  type_sound : (flat : List ℕ) (t : Shape) (rest : List ℕ) → type_at (suc levels) flat ≡ Some (t, rest) → HasAt (suc levels) t × (flat ≡ type_bytes t ++ rest)
+  type_sound : (flat : List ℕ) (t : Shape) (rest : List ℕ) → type_at (suc levels) flat ≡ Some (t, rest)
+      → HasAt (suc levels) t × (flat ≡ type_bytes t ++ rest)
   unfolding type_at
   type_sound flat t rest e =
       let first = then_some (byte_at flat) (picked (type_cases (type_at levels))) (t, rest) e in
@@ -233,29 +266,36 @@ module _ (levels : ℕ) (inner : Finds (HasAt levels) type_bytes (type_at levels
       ) first.3 in
       (found.0, byte ∙ found.1)
 
-  type_again : (t : Shape) (rest : List ℕ) → HasAt (suc levels) t → type_at (suc levels) (type_bytes t ++ rest) ≡ Some (t, rest)
+  type_again : (t : Shape) (rest : List ℕ) → HasAt (suc levels) t
+      → type_at (suc levels) (type_bytes t ++ rest) ≡ Some (t, rest)
   unfolding type_at
   type_again Shape.truth rest h = refl
   type_again Shape.int rest h = refl
   type_again Shape.time rest h = refl
   type_again Shape.str rest h = refl
   type_again Shape.bytes rest h = refl
-  type_again (Shape.array t) rest h = let low = h.1 in first_again inner t rest (λ s more. Some (Shape.array s, more)) (h.0, omega (arith, low))
+  type_again (Shape.array t) rest h = let low = h.1 in
+      first_again inner t rest (λ s more. Some (Shape.array s, more)) (h.0, omega (arith, low))
   type_again (Shape.mapping k v) rest h =
       let low = h.1 in
       first_there inner k ((type_bytes k ++ type_bytes v) ++ rest) (type_bytes v ++ rest)
-      (λ k more. and_then (type_at levels more) (λ v end. Some (Shape.mapping k v, end))) (h.0.0, omega (arith, low)) (append_assoc (type_bytes k) (type_bytes v) rest)
+      (λ k more. and_then (type_at levels more) (λ v end. Some (Shape.mapping k v, end))) (h.0.0, omega (arith, low))
+      (append_assoc (type_bytes k) (type_bytes v) rest)
       ∙ first_again inner v rest (λ v end. Some (Shape.mapping k v, end)) (h.0.1, omega (arith, low))
   type_again (Shape.tuple fields) rest h =
       let low = h.1 in
-      first_there (fields_finds false levels inner) (list_of fields) ((length_bytes (field_count fields) ++ fields_bytes false fields) ++ rest) rest
-      (λ fs more. Some (Shape.tuple (fields_of fs), more)) (short_list fields h.0.0, of_have false levels fields h.0.1 (omega (arith, low)))
+      first_there (fields_finds false levels inner) (list_of fields)
+      ((length_bytes (field_count fields) ++ fields_bytes false fields) ++ rest) rest
+      (λ fs more. Some (Shape.tuple (fields_of fs), more))
+      (short_list fields h.0.0, of_have false levels fields h.0.1 (omega (arith, low)))
       (ap (λ l. l ++ rest) (listed_bytes false fields))
       ∙ (λ i. Some (Shape.tuple (fields_again fields i), rest))
   type_again (Shape.proto fields) rest h =
       let low = h.1 in
-      first_there (fields_finds true levels inner) (list_of fields) ((length_bytes (field_count fields) ++ fields_bytes true fields) ++ rest) rest
-      (λ fs more. Some (Shape.proto (fields_of fs), more)) (short_list fields h.0.0, of_have true levels fields h.0.1 (omega (arith, low)))
+      first_there (fields_finds true levels inner) (list_of fields)
+      ((length_bytes (field_count fields) ++ fields_bytes true fields) ++ rest) rest
+      (λ fs more. Some (Shape.proto (fields_of fs), more))
+      (short_list fields h.0.0, of_have true levels fields h.0.1 (omega (arith, low)))
       (ap (λ l. l ++ rest) (listed_bytes true fields))
       ∙ (λ i. Some (Shape.proto (fields_again fields i), rest))
 
@@ -269,11 +309,16 @@ type_finds zero = record {
   sound = λ flat t rest e. absurd (none_some (sym (no_type_at_zero flat) ∙ e));
   again = λ t rest h. absurd (let low = h.1 in let some = some_height t in omega (arith, low, some));
 }
-type_finds (suc levels) = record { sound = type_sound levels (type_finds levels); again = type_again levels (type_finds levels) }
+type_finds (suc levels) = record {
+  sound = type_sound levels (type_finds levels);
+  again = type_again levels (type_finds levels);
+}
 
 -- a type of some levels begins with the byte of its kind
-pub type_at_more : (levels : ℕ) (flat : List ℕ) → 1 ≤ levels → type_at levels flat ≡ and_then (byte_at flat) (picked (type_cases (type_at (levels - 1))))
+pub type_at_more : (levels : ℕ) (flat : List ℕ) → 1 ≤ levels
+    → type_at levels flat ≡ and_then (byte_at flat) (picked (type_cases (type_at (levels - 1))))
 unfolding type_at
 type_at_more zero flat some = absurd (omega (arith, some))
 type_at_more (suc levels) flat some =
-    let back : levels ≡ suc levels - 1 = omega arith in ap (λ n. and_then (byte_at flat) (picked (type_cases (type_at n)))) back
+    let back : levels ≡ suc levels - 1 = omega arith in
+    ap (λ n. and_then (byte_at flat) (picked (type_cases (type_at n)))) back

@@ -10,5 +10,6 @@ use Rattle.sz_save_format.specs.Saved.{SavedState}
 -- how a saved state is stored
 abbrev pub saved_code : Coded SavedState
 saved_code =
-    code_by (ℕ × (List Declaration × List (List Indexed))) (coded× coded_ℕ (coded× declarations_code (coded_list (coded_list indexed_code))))
+    code_by (ℕ × (List Declaration × List (List Indexed)))
+    (coded× coded_ℕ (coded× declarations_code (coded_list (coded_list indexed_code))))
     (λ s. (s.bound, (s.decls, s.tables))) (λ p. record { bound = p.0; decls = p.1.0; tables = p.1.1 }) (λ _. refl)

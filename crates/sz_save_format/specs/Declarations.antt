@@ -27,18 +27,21 @@ abbrev pub weight_bytes : Option Shape → List ℕ
 weight_bytes None = 0 ∷ []
 weight_bytes (Some t) = 1 ∷ type_bytes t
 
--- the bytes of a declaration: its name, its kind, its limit in 4 bytes, and the types of its indexes, its elements and its weights
+-- the bytes of a declaration: its name, its kind, its limit in 4 bytes, and the types of its indexes, its elements
+-- and its weights
 abbrev pub declaration_bytes : Declaration → List ℕ
 declaration_bytes table =
     counted_bytes table.name
-    ++ (kind_byte table.kind ∷ (length_bytes table.limit ++ (types_bytes table.indexes ++ (type_bytes table.element ++ weight_bytes table.weight))))
+    ++ (kind_byte table.kind ∷ (length_bytes table.limit
+    ++ (types_bytes table.indexes ++ (type_bytes table.element ++ weight_bytes table.weight))))
 
 -- the type of the weights, if there are any, can stand in a saved file
 abbrev pub IsSavedWeight : Option Shape → Type 0
 IsSavedWeight None = ⊤
 IsSavedWeight (Some t) = IsSavedType t
 
--- the declaration can stand in a saved file: its names and types can, and its kind, limit, element and weight go together
+-- the declaration can stand in a saved file: its names and types can, and its kind, limit, element and weight go
+-- together
 pub record IsSavedDeclaration (table : Declaration) : Type 0 where
   pub name : HasName table.name
   pub limit : IsShort table.limit

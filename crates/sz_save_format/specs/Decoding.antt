@@ -38,7 +38,8 @@ only false found = None
 -- what the first bytes of a list are read as, by a width and its number of bytes
 unfoldable pub fixed_at : Width → ℕ → Decoder ℕ
 fixed_at w k bytes =
-    only (nat_lt (from_be_bytes w (take k bytes)) (256 ^ k) && bytes_eq (to_be_bytes w (from_be_bytes w (take k bytes)) ++ drop k bytes) bytes)
+    only (nat_lt (from_be_bytes w (take k bytes)) (256 ^ k)
+    && bytes_eq (to_be_bytes w (from_be_bytes w (take k bytes)) ++ drop k bytes) bytes)
     (Some (from_be_bytes w (take k bytes), drop k bytes))
 
 -- a length in 4 bytes
@@ -109,12 +110,14 @@ in_front (Some x) rest = Some (x, rest)
 unfoldable pub numbering_at : Bool → Decoder (ℕ × Encoding)
 numbering_at false bytes = Some ((0, Plain), bytes)
 numbering_at true bytes =
-    and_then (length_at bytes) (λ number rest. and_then (byte_at rest) (λ code more. and_then (in_front (encoding_in code) more) (λ way end. Some ((number, way), end))))
+    and_then (length_at bytes) (λ number rest. and_then (byte_at rest)
+    (λ code more. and_then (in_front (encoding_in code) more) (λ way end. Some ((number, way), end))))
 
 -- a field
 unfoldable pub field_at : Bool → Decoder Shape → Decoder FieldShape
 field_at numbered inner bytes =
-    and_then (name_at bytes) (λ name rest. and_then (inner rest) (λ t more. and_then (numbering_at numbered more) (λ n end. Some (field name t n.0 n.1, end))))
+    and_then (name_at bytes) (λ name rest. and_then (inner rest)
+    (λ t more. and_then (numbering_at numbered more) (λ n end. Some (field name t n.0 n.1, end))))
 
 -- fields behind their number
 abbrev pub fields_at : Bool → Decoder Shape → Decoder (List FieldShape)
@@ -125,7 +128,8 @@ abbrev pub array_type_at : Decoder Shape → Decoder Shape
 array_type_at inner bytes = and_then (inner bytes) (λ t rest. Some (Shape.array t, rest))
 
 abbrev pub mapping_type_at : Decoder Shape → Decoder Shape
-mapping_type_at inner bytes = and_then (inner bytes) (λ k rest. and_then (inner rest) (λ v more. Some (Shape.mapping k v, more)))
+mapping_type_at inner bytes =
+    and_then (inner bytes) (λ k rest. and_then (inner rest) (λ v more. Some (Shape.mapping k v, more)))
 
 abbrev pub tuple_type_at : Decoder Shape → Decoder Shape
 tuple_type_at inner bytes = and_then (fields_at false inner bytes) (λ fs rest. Some (Shape.tuple (fields_of fs), rest))
@@ -137,8 +141,8 @@ proto_type_at inner bytes = and_then (fields_at true inner bytes) (λ fs rest. S
 abbrev pub type_cases : Decoder Shape → List (ℕ × Decoder Shape)
 type_cases inner =
     (1, λ rest. Some (Shape.truth, rest)) ∷ (2, λ rest. Some (Shape.int, rest)) ∷ (3, λ rest. Some (Shape.time, rest))
-    ∷ (4, λ rest. Some (Shape.str, rest)) ∷ (5, λ rest. Some (Shape.bytes, rest)) ∷ (6, array_type_at inner) ∷ (7, tuple_type_at inner)
-    ∷ (8, mapping_type_at inner) ∷ (9, proto_type_at inner) ∷ []
+    ∷ (4, λ rest. Some (Shape.str, rest)) ∷ (5, λ rest. Some (Shape.bytes, rest)) ∷ (6, array_type_at inner)
+    ∷ (7, tuple_type_at inner) ∷ (8, mapping_type_at inner) ∷ (9, proto_type_at inner) ∷ []
 
 -- a type of at most so many levels
 unfoldable pub type_at : ℕ → Decoder Shape
@@ -177,7 +181,14 @@ abbrev pub Parts : Type 0
 Parts = List ℕ × (TableKind × (ℕ × (List Shape × (Shape × Option Shape))))
 
 abbrev pub made_of : Parts → Declaration
-made_of p = record { name = p.0; kind = p.1.0; limit = p.1.1.0; indexes = p.1.1.1.0; element = p.1.1.1.1.0; weight = p.1.1.1.1.1 }
+made_of p = record {
+  name = p.0;
+  kind = p.1.0;
+  limit = p.1.1.0;
+  indexes = p.1.1.1.0;
+  element = p.1.1.1.1.0;
+  weight = p.1.1.1.1.1;
+}
 
 -- a declaration, if its parts go together
 abbrev pub if_allowed : Declaration → List ℕ → Option (Declaration × List ℕ)
@@ -186,7 +197,8 @@ if_allowed table rest = only (is_allowed table) (Some (table, rest))
 -- a declaration
 unfoldable pub declaration_at : Decoder Declaration
 declaration_at bytes =
-    and_then (both name_at (both kind_at (both length_at (both types_at (both saved_type_at weight_at)))) bytes) (λ p rest. if_allowed (made_of p) rest)
+    and_then (both name_at (both kind_at (both length_at (both types_at (both saved_type_at weight_at)))) bytes)
+    (λ p rest. if_allowed (made_of p) rest)
 
 -- it stopped there for want of memory, of which nothing is said, or since no such thing was there
 abbrev pub Stops : {Y : Type 0} → Option Y → SavedError → Type 0

@@ -28,7 +28,8 @@ number_at flat = and_then (count_at flat) (λ n rest. Some (cast_signed w64 n, r
 -- a truth value behind its kind
 unfoldable pub truth_at : Decoder Datum
 truth_at flat =
-    and_then (byte_at flat) (λ b rest. if b == 0 then Some (truth false, rest) else only (b == 1) (Some (truth true, rest)))
+    and_then (byte_at flat)
+    (λ b rest. if b == 0 then Some (truth false, rest) else only (b == 1) (Some (truth true, rest)))
 
 -- a text behind its kind
 unfoldable pub text_at : Decoder Datum
@@ -48,11 +49,13 @@ array_at element flat = and_then (counted_at element flat) (λ ds rest. Some (ar
 
 unfoldable pub mapping_at : Decoder Datum → Decoder Datum → Decoder Datum
 mapping_at key value flat =
-    and_then (counted_at (pair_at key value) flat) (λ ps rest. only (in_order key_may_follow ps) (Some (mapping (entries_of ps), rest)))
+    and_then (counted_at (pair_at key value) flat)
+    (λ ps rest. only (in_order key_may_follow ps) (Some (mapping (entries_of ps), rest)))
 
 unfoldable pub tuple_at : ℕ → Decoder (List Datum) → Decoder Datum
 tuple_at count parts flat =
-    and_then (length_at flat) (λ n rest. only (n == count) (and_then (parts rest) (λ ds more. Some (tuple (data_of ds), more))))
+    and_then (length_at flat)
+    (λ n rest. only (n == count) (and_then (parts rest) (λ ds more. Some (tuple (data_of ds), more))))
 
 -- a number, a time and bytes, each behind its kind
 abbrev pub int_at : Decoder Datum
@@ -80,7 +83,8 @@ unfoldable mutual
   -- a value of the type of each field
   pub parts_at : FieldShapes → Decoder (List Datum)
   parts_at no_fields flat = Some ([], flat)
-  parts_at (with_field (field name t number code) fields) flat = and_then (value_at t flat) (λ d rest. put_first d (parts_at fields rest))
+  parts_at (with_field (field name t number code) fields) flat =
+      and_then (value_at t flat) (λ d rest. put_first d (parts_at fields rest))
 
 -- what was found, if it is all of the bytes, in front of others
 abbrev pub whole : {X : Type 0} → Option (X × List ℕ) → List ℕ → Option (X × List ℕ)
@@ -88,7 +92,8 @@ whole found rest = and_then found (λ x left. only (length left == 0) (Some (x, 
 
 -- a value of a type behind the number of its bytes
 unfoldable pub sized_at : Shape → Decoder Datum
-sized_at t flat = and_then (count_at flat) (λ n rest. only (nat_le n (length rest)) (whole (value_at t (take n rest)) (drop n rest)))
+sized_at t flat = and_then (count_at flat)
+    (λ n rest. only (nat_le n (length rest)) (whole (value_at t (take n rest)) (drop n rest)))
 
 -- a value of each of the types
 unfoldable pub indexes_at : List Shape → Decoder (List Datum)
@@ -101,7 +106,8 @@ wide_at flat = and_then (both count_at count_at flat) (λ p rest. Some (p.0 * 2 
 
 -- a sum in 16 bytes that is at most this far from 0
 unfoldable pub sum_at : ℕ → Decoder ℤ
-sum_at most flat = and_then (wide_at flat) (λ n rest. only (nat_le (unsigned_abs (cast_signed w128 n)) most) (Some (cast_signed w128 n, rest)))
+sum_at most flat = and_then (wide_at flat)
+    (λ n rest. only (nat_le (unsigned_abs (cast_signed w128 n)) most) (Some (cast_signed w128 n, rest)))
 
 -- as many as a count in 8 bytes says
 unfoldable pub long_counted_at : {X : Type 0} → Decoder X → Decoder (List X)
@@ -110,7 +116,8 @@ long_counted_at read flat = and_then (count_at flat) (λ n rest. many_at read n 
 -- the row of so many sums
 unfoldable pub sum_row_at : ℕ → ℕ → Decoder (List RowDatum)
 sum_row_at most count flat =
-    and_then (counted_at (sum_at most) flat) (λ ns rest. only (length ns == count) (Some (record { shown = sums ns; weight = None } ∷ [], rest)))
+    and_then (counted_at (sum_at most) flat)
+    (λ ns rest. only (length ns == count) (Some (record { shown = sums ns; weight = None } ∷ [], rest)))
 
 -- a weight, if there are weights
 unfoldable pub rank_at : Bool → Decoder (Option ℤ)
@@ -120,7 +127,8 @@ rank_at true flat = and_then (number_at flat) (λ n rest. Some (Some n, rest))
 -- a row of a value, and its weight, if there are weights
 unfoldable pub row_at : Bool → Shape → Decoder RowDatum
 row_at ranked element flat =
-    and_then (sized_at element flat) (λ value rest. and_then (rank_at ranked rest) (λ weight more. Some (record { shown = one value; weight = weight }, more)))
+    and_then (sized_at element flat) (λ value rest.
+    and_then (rank_at ranked rest) (λ weight more. Some (record { shown = one value; weight = weight }, more)))
 
 -- whether these are rows under one index list: at least one, at most so many, and in order
 abbrev pub are_rows : TableKind → ℕ → List RowDatum → Bool
@@ -140,7 +148,8 @@ many_rows_at kind ranked most element flat = rows_in kind most (long_counted_at 
 -- the rows of a set: 1 for too many values, and else 0 and the rows behind their number
 unfoldable pub set_at : ℕ → Shape → Decoder (List RowDatum)
 set_at most element flat =
-    and_then (byte_at flat) (λ b rest. if b == 0 then few_rows_at Set false most element rest else only (b == 1) (Some (overflow_row ∷ [], rest)))
+    and_then (byte_at flat) (λ b rest. if b == 0 then few_rows_at Set false most element rest
+    else only (b == 1) (Some (overflow_row ∷ [], rest)))
 
 -- the rows under an index list of a table of a kind
 unfoldable pub kind_rows_at : TableKind → ℕ → ℕ → Shape → Decoder (List RowDatum)
@@ -153,7 +162,8 @@ kind_rows_at Collection bound limit element flat = many_rows_at Collection false
 -- an index list and the rows under it
 unfoldable pub entry_at : ℕ → Declaration → Decoder Indexed
 entry_at bound table flat =
-    and_then (indexes_at table.indexes flat) (λ indexes rest. and_then (kind_rows_at table.kind bound table.limit table.element rest) (λ rows more.
+    and_then (indexes_at table.indexes flat)
+    (λ indexes rest. and_then (kind_rows_at table.kind bound table.limit table.element rest) (λ rows more.
     Some (record { indexes = indexes; rows = rows }, more)))
 
 -- whether these can be all index lists of a table: they rise, and a bound of 0 has none
@@ -163,11 +173,13 @@ are_entries bound entries = (not (bound == 0) || length entries == 0) && in_orde
 -- what a table holds
 unfoldable pub entries_at : ℕ → Declaration → Decoder (List Indexed)
 entries_at bound table flat =
-    and_then (long_counted_at (entry_at bound table) flat) (λ entries rest. only (are_entries bound entries) (Some (entries, rest)))
+    and_then (long_counted_at (entry_at bound table) flat)
+    (λ entries rest. only (are_entries bound entries) (Some (entries, rest)))
 
 -- a table
 unfoldable pub table_at : ℕ → Decoder (Declaration × List Indexed)
-table_at bound flat = and_then (declaration_at flat) (λ table rest. and_then (entries_at bound table rest) (λ entries more. Some ((table, entries), more)))
+table_at bound flat = and_then (declaration_at flat)
+    (λ table rest. and_then (entries_at bound table rest) (λ entries more. Some ((table, entries), more)))
 
 -- the mark of a saved file
 unfoldable pub mark_at : Decoder ℕ
@@ -179,7 +191,8 @@ state_with bound tables = record { bound = bound; decls = map (λ t. t.0) tables
 
 -- the bound behind the mark
 unfoldable pub head_at : Decoder ℕ
-head_at flat = and_then (mark_at flat) (λ _ rest. and_then (count_at rest) (λ bound more. only (nat_le bound most_bound) (Some (bound, more))))
+head_at flat = and_then (mark_at flat)
+    (λ _ rest. and_then (count_at rest) (λ bound more. only (nat_le bound most_bound) (Some (bound, more))))
 
 -- what a saved file holds, all of it
 unfoldable pub saved_at : Decoder SavedState

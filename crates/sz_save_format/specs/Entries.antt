@@ -10,7 +10,7 @@ use Rattle.sz_types.specs.declared.table.TableKind.{TableKind}
 use Rattle.sz_types.specs.declared.table.TableKind.TheVariants.{Sum, Maximum, Minimum, Set, Collection}
 use Rattle.sz_value.specs.Data.{Datum}
 use Rattle.sz_value.specs.Order.{compare}
-use Rattle.sz_typing_rules.specs.Types.{has_type}
+use Rattle.sz_types.specs.Types.{has_type}
 use Rattle.sz_flat.specs.Spelling.{length_bytes, number_bytes, spelling, IsShort, HasSpelling}
 use Rattle.sz_tabs.specs.Data.{Shown, one, sums, overflow, RowDatum, Weighted}
 use Rattle.sz_tabs.specs.Rows.{compare_indexes, greatest_first, least_first, overflow_row}
@@ -62,7 +62,8 @@ abbrev pub overflows : List RowDatum → Bool
 overflows [] = false
 overflows (row ∷ rows) = is_overflow row.shown
 
--- what stands before the rows under an index list: the number of values in 4 bytes, and of a collection in 8; before it, of a set, 0, or
+-- what stands before the rows under an index list: the number of values in 4 bytes, and of a collection in 8; before
+-- it, of a set, 0, or
 -- 1 alone where there are too many values; and nothing before sums
 abbrev pub front_bytes : TableKind → List RowDatum → List ℕ
 front_bytes Sum rows = []
@@ -73,7 +74,8 @@ front_bytes Collection rows = count_bytes (length rows)
 
 -- the bytes of an index list and the rows under it
 abbrev pub entry_bytes : TableKind → Indexed → List ℕ
-entry_bytes kind entry = flat_map value_bytes entry.indexes ++ (front_bytes kind entry.rows ++ flat_map row_bytes entry.rows)
+entry_bytes kind entry =
+    flat_map value_bytes entry.indexes ++ (front_bytes kind entry.rows ++ flat_map row_bytes entry.rows)
 
 -- the number of index lists in 8 bytes, and then they
 abbrev pub entries_bytes : TableKind → List Indexed → List ℕ
@@ -147,7 +149,8 @@ in_order follows (x ∷ []) = true
 in_order follows (x ∷ y ∷ ys) = follows x y && in_order follows (y ∷ ys)
 
 -- the rows are values in the order in which they are printed, at least one, and no more than so many
-pub record AreSavedRows (kind : TableKind) (ranked : Bool) (most : ℕ) (element : Shape) (rows : List RowDatum) : Type 0 where
+pub record AreSavedRows (kind : TableKind) (ranked : Bool) (most : ℕ) (element : Shape)
+    (rows : List RowDatum) : Type 0 where
   pub some : 1 ≤ length rows
   pub few : length rows ≤ most
   pub each : AllByRecursion (IsSavedRow ranked element) rows
@@ -162,7 +165,8 @@ abbrev pub AreSumRows : ℕ → Shape → List RowDatum → Type 0
 AreSumRows bound element (row ∷ []) = IsSavedSumRow bound element row
 AreSumRows _ _ _ = ⊥
 
--- the rows can stand in a saved file under an index list of a table of a kind and a limit, where no more emits were counted than the bound says
+-- the rows can stand in a saved file under an index list of a table of a kind and a limit, where no more emits were
+-- counted than the bound says
 abbrev pub HaveRows : TableKind → ℕ → ℕ → Shape → List RowDatum → Type 0
 HaveRows Sum bound limit element rows = AreSumRows bound element rows
 HaveRows Maximum bound limit element rows = AreSavedRows Maximum true limit element rows

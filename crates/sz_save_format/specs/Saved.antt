@@ -7,7 +7,8 @@ use Rattle.sz_total.specs.Tables.{Indexed}
 use Rattle.sz_save_format.specs.Declarations.{declaration_bytes, IsSavedDeclaration}
 use Rattle.sz_save_format.specs.Entries.{count_bytes, entries_bytes, AreSavedEntries}
 
--- what a saved file holds: no more emits were counted than the bound says; the declarations; and the rows of each table, by index list
+-- what a saved file holds: no more emits were counted than the bound says; the declarations; and the rows of each
+-- table, by index list
 pub record SavedState : Type 0 where
   pub bound : ℕ
   pub decls : List Declaration
@@ -31,7 +32,8 @@ tables_of saved = zip saved.decls saved.tables
 
 -- the bytes of a saved file: its mark, the bound in 8 bytes, the number of tables in 4, and the tables
 abbrev pub saved_bytes : SavedState → List ℕ
-saved_bytes saved = mark ++ (count_bytes saved.bound ++ (length_bytes (length saved.decls) ++ flat_map table_bytes (tables_of saved)))
+saved_bytes saved =
+    mark ++ (count_bytes saved.bound ++ (length_bytes (length saved.decls) ++ flat_map table_bytes (tables_of saved)))
 
 -- the table can stand in a saved file with this bound
 pub record IsSavedTable (bound : ℕ) (table : Declaration × List Indexed) : Type 0 where

@@ -29,11 +29,13 @@ abbrev mutual
   type_bytes (Shape.tuple fields) = 7 ∷ length_bytes (field_count fields) ++ fields_bytes false fields
   type_bytes (Shape.proto fields) = 9 ∷ length_bytes (field_count fields) ++ fields_bytes true fields
 
-  -- the bytes of fields, of a message or of a tuple: for each its name, its type, and in a message its number and encoding
+  -- the bytes of fields, of a message or of a tuple: for each its name, its type, and in a message its number and
+  -- encoding
   pub fields_bytes : Bool → FieldShapes → List ℕ
   fields_bytes numbered no_fields = []
   fields_bytes numbered (with_field (field name t number code) fields) =
-      (counted_bytes name ++ (type_bytes t ++ (if numbered then number_and_code number code else []))) ++ fields_bytes numbered fields
+      (counted_bytes name ++ (type_bytes t ++ (if numbered then number_and_code number code else [])))
+      ++ fields_bytes numbered fields
 
 -- a tuple's field has no number and no encoding, and a message's number has 4 bytes
 abbrev pub HasNumber : Bool → ℕ → Encoding → Type 0

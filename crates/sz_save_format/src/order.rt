@@ -46,7 +46,8 @@ fn may_follow(
     other: &Value,
     other_weight: Option<i64>,
 ) -> bool
-    ensures value { result ≡ rules.may_follow kind (record { value = seen one.now; weight = weight }) (record { value = seen other.now; weight = other_weight }) }
+    ensures value { result ≡ rules.may_follow kind (record { value = seen one.now; weight = weight })
+        (record { value = seen other.now; weight = other_weight }) }
 {
     match kind {
         TableKind::Sum => true,

@@ -32,8 +32,8 @@ use Rattle.sz_check_rules.specs.JudgingPrograms.{TopScene, Found, blocks_of, wit
 use Rattle.sz_check_rules.specs.JudgingPrograms.{TableTypes, judge_types, judge_table_declaration, judge_table, judge_parameters, judge_function}
 use Rattle.sz_check_rules.specs.JudgingPrograms.{judge_static, judge_typedef, judge_statement, judge_top, judge_all}
 use Rattle.sz_check_rules.proofs.Holds.{Holds, good, ok_holds, err_holds, bind_holds, if_holds}
-use Rattle.sz_check_laws.specs.JudgingWithTypes.{NamedShape, named_type, block_of_types, known_with, judge_program_with}
-use Rattle.sz_check_laws.proofs.ForCallers.{Mean, declared}
+use Rattle.sz_check_rules.specs.JudgingWithTypes.{NamedShape, named_type, block_of_types, known_with, judge_program_with}
+use Rattle.sz_check_rules.proofs.ForCallers.{Mean, declared}
 use Rattle.sz_save_names.specs.Laws.{TypesHaveBytes}
 use Rattle.sz_mean.specs.Marked.{table_of_lines, with_lines, marked, all_tables}
 use Rattle.sz_flat.specs.Spelling.{IsShort}
@@ -70,14 +70,24 @@ module _ (k : TopScene) (mean : Mean IsSpelled (blocks_of k)) where
 
   types_found : (f : TableForm) (n : Ident) → IsWrittenTable n f → Holds (judge_types (blocks_of k) f) (AreTypes f)
   types_found f n w = bind_holds (indexes_spelled (blocks_of k) mean f.indexes w.indexes) (λ indexes are.
-      bind_holds (type_spelled (blocks_of k) mean f.of.of w.element) (λ element is. bind_holds (anything (judge_weight (blocks_of k) f.weight)) (λ weight _.
-      ok_holds (AreTypes f) (record { indexes = indexes; element = element; weight = weight }) (record { indexes = are; element = is }))))
+      bind_holds (type_spelled (blocks_of k) mean f.of.of w.element)
+      (λ element is. bind_holds (anything (judge_weight (blocks_of k) f.weight)) (λ weight _.
+      ok_holds (AreTypes f) (record { indexes = indexes; element = element; weight = weight })
+      (record { indexes = are; element = is }))))
 
-  made : (f : TableForm) (n word : Ident) (kind : TableKind) (limit : Option ℕ) (types : TableTypes) → IsWrittenTable n f → AreTypes f types
+  made : (f : TableForm) (n word : Ident) (kind : TableKind) (limit : Option ℕ) (types : TableTypes)
+      → IsWrittenTable n f → AreTypes f types
       → Holds (declaration_of n word kind limit types.indexes types.element types.weight) HasBytes
   made f n word kind None types w are = err_holds _ _
   made f n word kind (Some limit) types w are =
-      let d : Declaration = record { name = n.text; kind = kind; limit = limit; indexes = types.indexes; element = types.element; weight = types.weight } in
+      let d : Declaration = record {
+        name = n.text;
+        kind = kind;
+        limit = limit;
+        indexes = types.indexes;
+        element = types.element;
+        weight = types.weight;
+      } in
       if_holds (is_allowed d) (λ fine. ok_holds HasBytes d (record {
         name = w.name;
         few = subst IsShort (sym are.indexes.many) w.few;
@@ -85,8 +95,10 @@ module _ (k : TopScene) (mean : Mean IsSpelled (blocks_of k)) where
         element = are.element;
       })) (λ bad. err_holds _ _)
 
-  declaration_found : (f : TableForm) (n : Ident) → IsWrittenTable n f → Holds (judge_table_declaration (blocks_of k) n f) HasBytes
-  declaration_found f n w = bind_holds (anything (kind_of f.kind)) (λ kind _. bind_holds (types_found f n w) (λ types are.
+  declaration_found : (f : TableForm) (n : Ident) → IsWrittenTable n f
+      → Holds (judge_table_declaration (blocks_of k) n f) HasBytes
+  declaration_found f n w =
+      bind_holds (anything (kind_of f.kind)) (λ kind _. bind_holds (types_found f n w) (λ types are.
       made f n f.kind kind (limit_of kind f.argument) types w are))
 
   table_found : (n : Ident) (f : TableForm) → IsWrittenTable n f → Holds (judge_table k n f) IsFound
@@ -97,7 +109,8 @@ module _ (k : TopScene) (mean : Mean IsSpelled (blocks_of k)) where
   static_found : (p : Place) (n : Ident) (t : Typ) (e : Exp) → Holds (judge_static k p n t e) IsFound
   static_found p n t e = bind_holds (anything (judge_type (blocks_of k) t)) (λ u _.
       bind_holds (anything (judge_exp (only is_seen_by_statics (blocks_of k)) false (Some u) e)) (λ m _.
-      bind_holds (anything (converted u e m)) (λ value _. bind_holds (declared IsSpelled n (names.static k.statics u) (blocks_of k) tt mean)
+      bind_holds (anything (converted u e m))
+      (λ value _. bind_holds (declared IsSpelled n (names.static k.statics u) (blocks_of k) tt mean)
       (λ blocks mean_now. ok_holds IsFound _ (record { mean = mean_now; tables = tt })))))
 
   typedef_found : (n : Ident) (t : Typ) → IsWritten t → Holds (judge_typedef k n t) IsFound
@@ -108,18 +121,22 @@ module _ (k : TopScene) (mean : Mean IsSpelled (blocks_of k)) where
   function_found : (n : Ident) (ps : Params) (t : Typ) (ss : Stms) → Holds (judge_function k n ps t ss) IsFound
   function_found n ps t ss =
       let outer : Scene = record { blocks = [] ∷ only is_seen_by_functions (blocks_of k); locals = [] } in
-      bind_holds (anything (judge_parameters outer ps)) (λ front _. bind_holds (anything (judge_type front.blocks t)) (λ u _.
+      bind_holds (anything (judge_parameters outer ps))
+      (λ front _. bind_holds (anything (judge_type front.blocks t)) (λ u _.
       let signature : Signature = record {
         parameters = front.locals;
         result = u;
         emits = stms_emit (emits_by front.blocks) (n.text ∷ []) ss;
       } in
-      bind_holds (declared IsSpelled n (names.function (length k.functions) signature) (blocks_of k) tt mean) (λ own mean_now.
-      bind_holds (anything _) (λ body _. ok_holds IsFound _ (record { mean = mean_now; tables = tt })))))
+      bind_holds (declared IsSpelled n (names.function (length k.functions) signature) (blocks_of k) tt mean)
+      (λ own mean_now. bind_holds (anything _)
+      (λ body _. ok_holds IsFound _ (record { mean = mean_now; tables = tt })))))
 
   statement_found : (s : Stm) → Holds (judge_statement k s) IsFound
-  statement_found s = bind_holds (stm_keeps IsSpelled (λ n t. tt) (record { result = None; loop = false }) k.scene s mean) (λ m keeps.
-      ok_holds IsFound (record { known = record k { scene = m.scene }; items = items.statement m.stm ∷ [] }) (record { mean = keeps; tables = tt }))
+  statement_found s =
+      bind_holds (stm_keeps IsSpelled (λ n t. tt) (record { result = None; loop = false }) k.scene s mean) (λ m keeps.
+      ok_holds IsFound (record { known = record k { scene = m.scene }; items = items.statement m.stm ∷ [] })
+      (record { mean = keeps; tables = tt }))
 
   top_found : (s : Stm) → IsWrittenStm s → Holds (judge_top k s) IsFound
   top_found (static p n t e) w = static_found p n t e
@@ -130,7 +147,8 @@ module _ (k : TopScene) (mean : Mean IsSpelled (blocks_of k)) where
 
 -- ---- the whole program
 
-all_both : {X : Type 0} (P : X → Type 0) (xs ys : List X) → AllByRecursion P xs → AllByRecursion P ys → AllByRecursion P (xs ++ ys)
+all_both : {X : Type 0} (P : X → Type 0) (xs ys : List X) → AllByRecursion P xs → AllByRecursion P ys
+    → AllByRecursion P (xs ++ ys)
 all_both P [] ys h k = k
 all_both P (x ∷ xs) ys h k = (h.0, all_both P xs ys h.1 k)
 
@@ -141,10 +159,12 @@ tables_of_both (items.function f ∷ xs) ys = tables_of_both xs ys
 tables_of_both (items.static s ∷ xs) ys = tables_of_both xs ys
 tables_of_both (items.statement s ∷ xs) ys = tables_of_both xs ys
 
-all_found : (k : TopScene) (ss : Stms) → Mean IsSpelled (blocks_of k) → AreWrittenStms ss → Holds (judge_all k ss) IsFound
+all_found : (k : TopScene) (ss : Stms) → Mean IsSpelled (blocks_of k) → AreWrittenStms ss
+    → Holds (judge_all k ss) IsFound
 unfolding judge_all
 all_found k no_stms mean w = ok_holds IsFound (record { known = k; items = [] }) (record { mean = mean; tables = tt })
-all_found k (stm s ss) mean w = bind_holds (top_found k mean s w.0) (λ first is. bind_holds (all_found first.known ss is.mean w.1) (λ rest are.
+all_found k (stm s ss) mean w =
+    bind_holds (top_found k mean s w.0) (λ first is. bind_holds (all_found first.known ss is.mean w.1) (λ rest are.
     ok_holds IsFound (record { known = rest.known; items = first.items ++ rest.items }) (record {
       mean = are.mean;
       tables = subst (AllByRecursion HasBytes) (sym (tables_of_both first.items rest.items))
@@ -163,25 +183,32 @@ block_mean : (types : List NamedShape) → TypesHaveBytes types → Mean IsSpell
 block_mean [] h = (tt, tt)
 block_mean (t ∷ types) h = one_more (block_of_types types) (named_type t) (block_mean types h.1) h.0
 
-program_found : (types : List NamedShape) → TypesHaveBytes types → (ss : Stms) → AreWrittenStms ss → Holds (judge_program_with types ss) HaveBytes
+program_found : (types : List NamedShape) → TypesHaveBytes types → (ss : Stms) → AreWrittenStms ss
+    → Holds (judge_program_with types ss) HaveBytes
 program_found types have ss w =
-    bind_holds (all_found (known_with types) ss (tt, ((block_mean types have).0, ((tt, (tt, (tt, (tt, (tt, tt))))), tt))) w)
+    bind_holds
+    (all_found (known_with types) ss (tt, ((block_mean types have).0, ((tt, (tt, (tt, (tt, (tt, tt))))), tt))) w)
     (λ found is. ok_holds HaveBytes _ is.tables)
 
 -- ---- what kinds allow, and how many tables there are
 
 -- a limit is short
 at_most : (least most n : ℕ) → is_between least most n ≡ true → most < 2 ^ 32 → IsShort n
-at_most least most n h low = let below : n ≤ most = leb-true n most (and_parts (nat_le least n) (nat_le n most) h).1 in omega (arith, below, low)
+at_most least most n h low =
+    let below : n ≤ most = leb-true n most (and_parts (nat_le least n) (nat_le n most) h).1 in
+    omega (arith, below, low)
 
 limit_short : (d : Declaration) (kind : TableKind) → kind_allows kind d ≡ true → IsShort d.limit
 limit_short d Sum h = none d.limit (and_parts _ _ (and_parts _ _ h).0).0
   where
     none : (n : ℕ) → nat_eq n 0 ≡ true → IsShort n
     none n h = let zero = eqb-true n 0 h in omega (arith, zero)
-limit_short d Maximum h = at_most 1 10000 d.limit (and_parts (is_between 1 10000 d.limit) (is_weight d.weight) h).0 (omega arith)
-limit_short d Minimum h = at_most 1 10000 d.limit (and_parts (is_between 1 10000 d.limit) (is_weight d.weight) h).0 (omega arith)
-limit_short d Set h = at_most 1 1000000 d.limit (and_parts (is_between 1 1000000 d.limit) (has_no_weight d.weight) h).0 (omega arith)
+limit_short d Maximum h =
+    at_most 1 10000 d.limit (and_parts (is_between 1 10000 d.limit) (is_weight d.weight) h).0 (omega arith)
+limit_short d Minimum h =
+    at_most 1 10000 d.limit (and_parts (is_between 1 10000 d.limit) (is_weight d.weight) h).0 (omega arith)
+limit_short d Set h =
+    at_most 1 1000000 d.limit (and_parts (is_between 1 1000000 d.limit) (has_no_weight d.weight) h).0 (omega arith)
 limit_short d Collection h = let zero = eqb-true d.limit 0 (and_parts _ _ h).0 in omega (arith, zero)
 
 -- a weight is a number or a time
@@ -227,14 +254,15 @@ record AreAllowed (before : ℕ) (ds : List Declaration) : Type 0 where
   each : AllByRecursion (λ (d : Declaration). is_allowed d ≡ true) ds
   few : before + length ds ≤ 64
 
-tables_allowed : (locals : List Shape) (seen : List ℕ) (d : Declared) (xs : List Item) → length d.tables ≤ 64 → AreItems locals seen d xs
-    → AreAllowed (length d.tables) (tables_of xs)
+tables_allowed : (locals : List Shape) (seen : List ℕ) (d : Declared) (xs : List Item) → length d.tables ≤ 64
+    → AreItems locals seen d xs → AreAllowed (length d.tables) (tables_of xs)
 unfolding AreItems
 tables_allowed locals seen d [] few h = record { each = tt; few = omega (arith, few) }
 tables_allowed locals seen d (items.table t ∷ xs) few h =
     let longer = length-append d.tables (t ∷ []) in
     let room = h.0.few in
-    let rest = tables_allowed locals seen (record d { tables = d.tables ++ t ∷ [] }) xs (omega (arith, longer, room)) h.1 in
+    let rest =
+    tables_allowed locals seen (record d { tables = d.tables ++ t ∷ [] }) xs (omega (arith, longer, room)) h.1 in
     record { each = (h.0.allowed, rest.each); few = let all = rest.few in omega (arith, longer, all) }
 tables_allowed locals seen d (items.function f ∷ xs) few h =
     let rest = tables_allowed locals seen (record d { functions = d.functions ++ f.signature ∷ [] }) xs few h.1 in
@@ -246,7 +274,8 @@ tables_allowed locals seen d (items.statement s ∷ xs) few h =
     let rest = tables_allowed locals _ d xs few h.1 in
     record { each = rest.each; few = rest.few }
 
-all_declared : (ds : List Declaration) → AllByRecursion HasBytes ds → AllByRecursion (λ (d : Declaration). is_allowed d ≡ true) ds → are_all_low ds ≡ true
+all_declared : (ds : List Declaration) → AllByRecursion HasBytes ds
+    → AllByRecursion (λ (d : Declaration). is_allowed d ≡ true) ds → are_all_low ds ≡ true
     → AllByRecursion IsSavedDeclaration ds
 all_declared [] has allowed low = tt
 all_declared (d ∷ ds) has allowed low =
@@ -266,21 +295,25 @@ lines_saved = record {
   allowed = refl;
 }
 
-with_lines_spelled : (ignoring : Bool) (ds : List Declaration) → length ds ≤ 64 → AllByRecursion IsSavedDeclaration ds → HaveSpelling (with_lines ignoring ds)
+with_lines_spelled : (ignoring : Bool) (ds : List Declaration) → length ds ≤ 64 → AllByRecursion IsSavedDeclaration ds
+    → HaveSpelling (with_lines ignoring ds)
 with_lines_spelled false ds few all = record { few = omega (arith, few); each = all }
 with_lines_spelled true ds few all = record {
   few = let longer = length-append ds (table_of_lines ∷ []) in omega (arith, longer, few);
   each = all_both IsSavedDeclaration ds (table_of_lines ∷ []) all (lines_saved, tt);
 }
 
-pub tables_spelled : (text : List ℕ) (tokens : List Token) (types : List NamedShape) (ss : Stms) (program : Core) (ignoring : Bool) → length text < 2 ^ 32
-    → LieInOrder text 0 tokens → Spells (record { text = text; tokens = tokens }) ss → TypesHaveBytes types → judge_program_with types ss ≡ good program
-    → IsSound program → are_all_low (tables_of program.items) ≡ true
+pub tables_spelled : (text : List ℕ) (tokens : List Token) (types : List NamedShape) (ss : Stms) (program : Core)
+    (ignoring : Bool) → length text < 2 ^ 32
+    → LieInOrder text 0 tokens → Spells (record { text = text; tokens = tokens }) ss → TypesHaveBytes types
+    → judge_program_with types ss ≡ good program → IsSound program → are_all_low (tables_of program.items) ≡ true
     → HaveSpelling (all_tables (marked program ignoring))
 tables_spelled text tokens types ss program ignoring short order spells have judged sound low =
     let few = few_tokens text 0 tokens (omega arith) order in
     let written =
-    stms_written (lexeme_of text) (names_of text) (names_are text) ss tokens [] spells.reads (agrees text 0 tokens short order) (omega (arith, short, few)) in
+    stms_written (lexeme_of text) (names_of text)
+    (names_are text) ss tokens [] spells.reads (agrees text 0 tokens short order) (omega (arith, short, few)) in
     let has = (program_found types have ss written).holds program judged in
     let are = tables_allowed program.locals [] nothing_declared program.items (omega arith) sound.items in
-    with_lines_spelled ignoring (tables_of program.items) (let most = are.few in omega (arith, most)) (all_declared (tables_of program.items) has are.each low)
+    with_lines_spelled ignoring (tables_of program.items) (let most = are.few in omega (arith, most))
+    (all_declared (tables_of program.items) has are.each low)

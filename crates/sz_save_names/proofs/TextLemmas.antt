@@ -58,24 +58,30 @@ held_is true l h = refl
 held_is false l h = absurd (cc)
 
 same_kind : (k : Kind) (l : List ℕ) → IsLexeme k l → IsShort (length l) → l ≡ as_kind k l
-same_kind kinds.Name l h short = held_is (is_held l) l (and_from (is_name l) (nat_lt (length l) (2 ^ 32)) (name_tells l h) (lt-ltb (length l) (2 ^ 32) short))
+same_kind kinds.Name l h short = held_is (is_held l) l
+    (and_from (is_name l) (nat_lt (length l) (2 ^ 32)) (name_tells l h) (lt-ltb (length l) (2 ^ 32) short))
 same_kind _ l h short = refl
 
 lexeme_short : (text : List ℕ) (t : Token) → length (lexeme_of text t) ≤ length text
 lexeme_short text t = omega (arith, length-take t.len (drop t.start text), length-drop t.start text)
 
-pub agrees : (text : List ℕ) (at : ℕ) (ts : List Token) → IsShort (length text) → LieInOrder text at ts → Agree (lexeme_of text) (names_of text) ts
+pub agrees : (text : List ℕ) (at : ℕ) (ts : List Token) → IsShort (length text) → LieInOrder text at ts
+    → Agree (lexeme_of text) (names_of text) ts
 agrees text at [] short h = tt
-agrees text at (t ∷ ts) short h =
-    (same_kind t.kind (lexeme_of text t) h.4 (omega (arith, short, lexeme_short text t)), agrees text (t.start + t.len) ts short h.5)
+agrees text at (t ∷ ts) short h = (
+  same_kind t.kind (lexeme_of text t) h.4 (omega (arith, short, lexeme_short text t)),
+  agrees text (t.start + t.len) ts short h.5,
+)
 
 -- ---- a token takes a byte at least
 
 takes_bytes : (text : List ℕ) (t : Token) (len : ℕ) → t.len ≡ len → IsLexeme t.kind (lexeme_of text t) → 1 ≤ t.len
-takes_bytes text t zero is h = absurd (no_empty t.kind (subst (IsLexeme t.kind) (ap (λ n. take n (drop t.start text)) is) h))
+takes_bytes text t zero is h =
+    absurd (no_empty t.kind (subst (IsLexeme t.kind) (ap (λ n. take n (drop t.start text)) is) h))
 takes_bytes text t (suc len) is h = omega (arith, is)
 
-pub few_tokens : (text : List ℕ) (at : ℕ) (ts : List Token) → at ≤ length text → LieInOrder text at ts → length ts ≤ length text - at
+pub few_tokens : (text : List ℕ) (at : ℕ) (ts : List Token) → at ≤ length text → LieInOrder text at ts
+    → length ts ≤ length text - at
 few_tokens text at [] within h = omega arith
 few_tokens text at (t ∷ ts) within h =
     let byte = takes_bytes text t t.len refl h.4 in

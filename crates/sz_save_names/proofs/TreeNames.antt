@@ -1,4 +1,5 @@
--- How the names in a tree are written: those of fields and of tables are names that a saved file can hold, and there are few of them.
+-- How the names in a tree are written: those of fields and of tables are names that a saved file can hold, and there
+-- are few of them.
 use Rattle.std.proofs.Common.{ℕ, suc, ◌+◌, ◌<◌, ◌≤◌, ℤ, List, [], ◌∷◌, length, sym, ap, subst, arith}
 use Rattle.std.specs.Prelude.{⊤, Option, Some, None}
 use Rattle.std.specs.List.{AllByRecursion}
@@ -83,12 +84,14 @@ module _ (text : Spelling) (names : (p : Place) (start len : ℕ) → HasName (t
     type_written : (t : Typ) (ts rest : List Token) → ReadsType text t ts rest → AreFew ts → IsWritten t
     type_written (basic p b) ts rest h few = tt
     type_written (type_name n) ts rest h few = tt
-    type_written (array p t) ts rest h few = type_written t h.1 rest h.4 (omega (arith, few, at_length h.2, is_length h.3))
+    type_written (array p t) ts rest h few =
+        type_written t h.1 rest h.4 (omega (arith, few, at_length h.2, is_length h.3))
     type_written (map_type p l k v) ts rest h few =
         let label = label_shorter text l h.1 h.2 h.8 in
         let first = type_shorter text k h.2 h.3 h.9 in (
           type_written k h.2 h.3 h.9 (omega (arith, few, at_length h.6, is_length h.7, label)),
-          type_written v h.5 rest h.12 (omega (arith, few, at_length h.6, is_length h.7, label, first, is_length h.10, is_length h.11)),
+          type_written v h.5 rest h.12
+              (omega (arith, few, at_length h.6, is_length h.7, label, first, is_length h.10, is_length h.11)),
         )
     type_written (tuple p ps) ts rest h few =
         let inner : AreFew h.0 = omega (arith, few, at_length h.2) in
@@ -99,7 +102,8 @@ module _ (text : Spelling) (names : (p : Place) (start len : ℕ) → HasName (t
         let fields = fields_written fs h.1 h.2 h.5 inner in
         (omega (arith, inner, fields.1), fields.0)
 
-    params_written : (ps : Params) (ts rest : List Token) → ReadsParams text ps ts rest → AreFew ts → AreWritten ps × (parts_in ps ≤ length ts)
+    params_written : (ps : Params) (ts rest : List Token) → ReadsParams text ps ts rest → AreFew ts
+        → AreWritten ps × (parts_in ps ≤ length ts)
     params_written no_params ts rest h few = absurd h
     params_written (param n t ps) ts rest h few =
         let first = type_shorter text t h.1 h.2 h.5 in
@@ -107,25 +111,30 @@ module _ (text : Spelling) (names : (p : Place) (start len : ℕ) → HasName (t
         let more = more_params_written ps h.2 rest h.6 (omega (arith, few, name_length h.3, is_length h.4, first)) in
         ((named h.3, here, more.0), omega (arith, more.1, name_length h.3, is_length h.4, first))
 
-    more_params_written : (ps : Params) (ts rest : List Token) → ReadsMoreParams text ps ts rest → AreFew ts → AreWritten ps × (parts_in ps ≤ length ts)
+    more_params_written : (ps : Params) (ts rest : List Token) → ReadsMoreParams text ps ts rest → AreFew ts
+        → AreWritten ps × (parts_in ps ≤ length ts)
     more_params_written no_params ts rest h few = (tt, omega arith)
     more_params_written (param n t ps) ts rest h few =
         let first = type_shorter text t h.2 h.3 h.7 in
         let here = type_written t h.2 h.3 h.7 (omega (arith, few, is_length h.4, name_length h.5, is_length h.6)) in
-        let more = more_params_written ps h.3 rest h.8 (omega (arith, few, is_length h.4, name_length h.5, is_length h.6, first)) in
+        let more = more_params_written ps h.3 rest h.8
+        (omega (arith, few, is_length h.4, name_length h.5, is_length h.6, first)) in
         ((named h.5, here, more.0), omega (arith, more.1, is_length h.4, name_length h.5, is_length h.6, first))
 
-    fields_written : (fs : Fields) (ts rest : List Token) → ReadsFields text fs ts rest → AreFew ts → FieldsAreWritten fs × (fields_in fs ≤ length ts)
+    fields_written : (fs : Fields) (ts rest : List Token) → ReadsFields text fs ts rest → AreFew ts
+        → FieldsAreWritten fs × (fields_in fs ≤ length ts)
     fields_written no_fields ts rest h few = absurd h
     fields_written (proto_field n t k l fs) ts rest h few =
         let first = type_shorter text t h.1 h.2 h.8 in
         let label = maybe_shorter l h.4 h.5 h.11 in
         let here = type_written t h.1 h.2 h.8 (omega (arith, few, name_length h.6, is_length h.7)) in
-        let less : suc (length h.5) ≤ length ts = omega (arith, name_length h.6, is_length h.7, first, is_length h.9, is_length h.10, label) in
+        let less : suc (length h.5) ≤ length ts =
+        omega (arith, name_length h.6, is_length h.7, first, is_length h.9, is_length h.10, label) in
         let more = more_fields_written fs h.5 rest h.12 (omega (arith, few, less)) in
         ((named h.6, here, more.0), omega (arith, more.1, less))
 
-    more_fields_written : (fs : Fields) (ts rest : List Token) → ReadsMoreFields text fs ts rest → AreFew ts → FieldsAreWritten fs × (fields_in fs ≤ length ts)
+    more_fields_written : (fs : Fields) (ts rest : List Token) → ReadsMoreFields text fs ts rest → AreFew ts
+        → FieldsAreWritten fs × (fields_in fs ≤ length ts)
     more_fields_written no_fields ts rest h few = (tt, omega arith)
     more_fields_written (proto_field n t k l fs) ts rest h few =
         let first = type_shorter text t h.2 h.3 h.10 in
@@ -140,12 +149,19 @@ module _ (text : Spelling) (names : (p : Place) (start len : ℕ) → HasName (t
 
   elem_written : (e : ElemForm) (ts rest : List Token) → ReadsElem text e ts rest → AreFew ts → IsWritten e.of
   unfolding ReadsElem
-  elem_written e ts rest h few = type_written e.of h.0 rest h.2 (omega (arith, few, label_shorter text e.name ts h.0 h.1))
+  elem_written e ts rest h few =
+      type_written e.of h.0 rest h.2 (omega (arith, few, label_shorter text e.name ts h.0 h.1))
 
   index_shorter : (e : ElemForm) (ts rest : List Token) → ReadsTableIndex text e ts rest → length rest < length ts
   unfolding ReadsElem
   index_shorter e ts rest h =
-      omega (arith, is_length h.2, label_shorter text e.name h.0 h.3.0 h.3.1, type_shorter text e.of h.3.0 h.1 h.3.2, is_length h.4)
+      omega (
+        arith,
+        is_length h.2,
+        label_shorter text e.name h.0 h.3.0 h.3.1,
+        type_shorter text e.of h.3.0 h.1 h.3.2,
+        is_length h.4,
+      )
 
   indexes_written : (es : List ElemForm) (ts rest : List Token) → Many (ReadsTableIndex text) es ts rest → AreFew ts
       → AllByRecursion (λ (e : ElemForm). IsWritten e.of) es × (length es ≤ length ts)
@@ -160,13 +176,21 @@ module _ (text : Spelling) (names : (p : Place) (start len : ℕ) → HasName (t
   argument_shorter None ts rest h = omega (arith, ap length h)
   argument_shorter (Some n) ts rest h = omega (arith, is_length h.2, is_length h.3, is_length h.4)
 
-  table_written : (n : Ident) (f : TableForm) (ts rest : List Token) → ReadsStm text (table n f) ts rest → AreFew ts → IsWrittenTable n f
+  table_written : (n : Ident) (f : TableForm) (ts rest : List Token) → ReadsStm text (table n f) ts rest → AreFew ts
+      → IsWrittenTable n f
   unfolding ReadsStm ReadsTable
   table_written n f ts rest h few =
       let form = h.6 in
       let word = form.6 in
       let front : length form.1 < length ts =
-      omega (arith, name_length h.3, is_length h.4, is_length h.5, name_length word, argument_shorter f.argument form.0 form.1 form.7) in
+      omega (
+        arith,
+        name_length h.3,
+        is_length h.4,
+        is_length h.5,
+        name_length word,
+        argument_shorter f.argument form.0 form.1 form.7,
+      ) in
       let indexes = indexes_written f.indexes form.1 form.2 form.8 (omega (arith, few, front)) in
       let shorter = many_fewer (ReadsTableIndex text) index_shorter f.indexes form.1 form.2 form.8 in
       record {
@@ -183,9 +207,12 @@ module _ (text : Spelling) (names : (p : Place) (start len : ℕ) → HasName (t
   stm_written (table n f) ts rest h few = table_written n f ts rest h few
   stm_written _ ts rest h few = tt
 
--- of statements that are read by one spelling, where another that agrees with it on their tokens spells each name token by a name
-module _ (text other : Spelling) (names : (p : Place) (start len : ℕ) → HasName (other (token kinds.Name p start len))) where
-  pub stms_written : (ss : Stms) (ts rest : List Token) → ReadsStms text ss ts rest → Agree text other ts → IsShort (length ts) → AreWrittenStms ss
+-- of statements that are read by one spelling, where another that agrees with it on their tokens spells each name
+-- token by a name
+module _ (text other : Spelling)
+    (names : (p : Place) (start len : ℕ) → HasName (other (token kinds.Name p start len))) where
+  pub stms_written : (ss : Stms) (ts rest : List Token) → ReadsStms text ss ts rest → Agree text other ts
+      → IsShort (length ts) → AreWrittenStms ss
   unfolding ReadsStm
   stms_written no_stms ts rest h agree few = tt
   stms_written (stm s ss) ts rest h agree few =

@@ -6,7 +6,7 @@ use Rattle.sz_tree.specs.Statements.{Stms}
 use Rattle.sz_parse.specs.Program.{Spells}
 use Rattle.sz_core.specs.Programs.{Core, tables_of}
 use Rattle.sz_core.specs.Sound.{IsSound}
-use Rattle.sz_check_laws.specs.JudgingWithTypes.{NamedShape, judge_program_with}
+use Rattle.sz_check_rules.specs.JudgingWithTypes.{NamedShape, judge_program_with}
 use Rattle.sz_save_format.specs.Types.{HasTypeBytes}
 use Rattle.sz_mean.specs.Marked.{marked, all_tables}
 use Rattle.sz_save.specs.Saving.{HaveSpelling, are_all_low}
@@ -16,12 +16,13 @@ abbrev pub TypesHaveBytes : List NamedShape → Type 0
 TypesHaveBytes [] = Unit {0}
 TypesHaveBytes (t ∷ types) = HasTypeBytes t.1 × TypesHaveBytes types
 
--- The tables of a program that a text spells have a spelling, where their types are low. So they have with the table of lines behind them,
--- where the program is an ignoring one. The text has fewer than 2^32 bytes, as each program's has, and the types that are known round the
--- program have their bytes.
+-- The tables of a program that a text spells have a spelling, where their types are low. So they have with the table
+-- of lines behind them, where the program is an ignoring one. The text has fewer than 2^32 bytes, as each program's
+-- has, and the types that are known round the program have their bytes.
 abbrev pub TablesHaveSpellings : Type 0
 TablesHaveSpellings =
-    (text : List ℕ) (tokens : List Token) (types : List NamedShape) (statements : Stms) (program : Core) (ignoring : Bool) → length text < 2 ^ 32
+    (text : List ℕ) (tokens : List Token) (types : List NamedShape) (statements : Stms) (program : Core)
+    (ignoring : Bool) → length text < 2 ^ 32
     → HasTokens text tokens → Spells (record { text = text; tokens = tokens }) statements → TypesHaveBytes types
     → judge_program_with types statements ≡ Ok program → IsSound program → are_all_low (tables_of program.items) ≡ true
     → HaveSpelling (all_tables (marked program ignoring))

@@ -38,7 +38,8 @@ weight_saved Set = tt
 weight_saved Collection = tt
 
 -- the table can be saved
-pub table_spelled : (tables : List Declaration) (kind : TableKind) → tables ≡ numbers_table kind ∷ [] → HaveSpelling tables
+pub table_spelled : (tables : List Declaration) (kind : TableKind) → tables ≡ numbers_table kind ∷ []
+    → HaveSpelling tables
 unfolding is_name
 table_spelled tables kind is = subst HaveSpelling (sym is) (record {
   few = omega arith;
@@ -63,23 +64,53 @@ has_weights Minimum ranked = refl
 has_weights Set ranked = ranked
 has_weights Collection ranked = ranked
 
-pub table_weighted : (tables : List Declaration) (kind : TableKind) → tables ≡ numbers_table kind ∷ [] → HaveTheirWeights tables
+pub table_weighted : (tables : List Declaration) (kind : TableKind) → tables ≡ numbers_table kind ∷ []
+    → HaveTheirWeights tables
 table_weighted tables kind is =
-    subst HaveTheirWeights (sym is) (All-cons HasItsWeights (numbers_table kind) [] (has_weights kind) (All-nil HasItsWeights))
+    subst HaveTheirWeights (sym is)
+    (All-cons HasItsWeights (numbers_table kind) [] (has_weights kind) (All-nil HasItsWeights))
 
 -- the emit goes to the table
-goes : (kind : TableKind) (index number weight : ℤ) → IsEmitTo (numbers_table kind ∷ []) (number_emit kind index number weight)
-goes Sum index number weight = record { table = numbers_table Sum; declared = refl; indexes = refl; fits = record { element = refl; weight = refl } }
-goes Maximum index number weight = record { table = numbers_table Maximum; declared = refl; indexes = refl; fits = record { element = refl; weight = refl } }
-goes Minimum index number weight = record { table = numbers_table Minimum; declared = refl; indexes = refl; fits = record { element = refl; weight = refl } }
-goes Set index number weight = record { table = numbers_table Set; declared = refl; indexes = refl; fits = record { element = refl; weight = refl } }
+goes : (kind : TableKind) (index number weight : ℤ)
+    → IsEmitTo (numbers_table kind ∷ []) (number_emit kind index number weight)
+goes Sum index number weight = record {
+  table = numbers_table Sum;
+  declared = refl;
+  indexes = refl;
+  fits = record { element = refl; weight = refl };
+}
+goes Maximum index number weight = record {
+  table = numbers_table Maximum;
+  declared = refl;
+  indexes = refl;
+  fits = record { element = refl; weight = refl };
+}
+goes Minimum index number weight = record {
+  table = numbers_table Minimum;
+  declared = refl;
+  indexes = refl;
+  fits = record { element = refl; weight = refl };
+}
+goes Set index number weight = record {
+  table = numbers_table Set;
+  declared = refl;
+  indexes = refl;
+  fits = record { element = refl; weight = refl };
+}
 goes Collection index number weight =
-    record { table = numbers_table Collection; declared = refl; indexes = refl; fits = record { element = refl; weight = refl } }
+    record {
+      table = numbers_table Collection;
+      declared = refl;
+      indexes = refl;
+      fits = record { element = refl; weight = refl };
+    }
 
-pub emit_goes : (tables : List Declaration) (kind : TableKind) (emit : EmitDatum) (index number weight : ℤ) → tables ≡ numbers_table kind ∷ []
-    → emit ≡ number_emit kind index number weight → IsEmitTo tables emit
+pub emit_goes : (tables : List Declaration) (kind : TableKind) (emit : EmitDatum) (index number weight : ℤ)
+    → tables ≡ numbers_table kind ∷ [] → emit ≡ number_emit kind index number weight → IsEmitTo tables emit
 emit_goes tables kind emit index number weight is also =
-    subst (λ ds. IsEmitTo ds emit) (sym is) (subst (IsEmitTo (numbers_table kind ∷ [])) (sym also) (goes kind index number weight))
+    subst (λ ds. IsEmitTo ds emit) (sym is)
+    (subst (IsEmitTo (numbers_table kind ∷ [])) (sym also) (goes kind index number weight))
 
-pub emit_short : (kind : TableKind) (emit : EmitDatum) (index number weight : ℤ) → emit ≡ number_emit kind index number weight → HasShortParts emit
+pub emit_short : (kind : TableKind) (emit : EmitDatum) (index number weight : ℤ)
+    → emit ≡ number_emit kind index number weight → HasShortParts emit
 emit_short kind emit index number weight is = subst HasShortParts (sym is) (record { indexes = (tt, tt); value = tt })

@@ -34,4 +34,9 @@ numbers_table kind = record {
 
 -- the emit of a number under an index, with a weight where the kind has weights
 abbrev pub number_emit : TableKind → (index number weight : ℤ) → EmitDatum
-number_emit kind index number weight = record { table = 0; indexes = int index ∷ []; value = int number; weight = weight_for kind weight }
+number_emit kind index number weight = record {
+  table = 0;
+  indexes = int index ∷ [];
+  value = int number;
+  weight = weight_for kind weight;
+}

@@ -4,9 +4,9 @@ use Rattle.std.proofs.lemmas.Bool.{eq-eqb, ne_eqb, cond-true, cond-false}
 use Rattle.sz_scope.specs.declared.entry.Entry.{Entry}
 use Rattle.sz_scope.specs.Blocks.{Block, with_declared}
 use Rattle.sz_scope.specs.Sight.{blocks_where}
-use Rattle.sz_names.specs.Names.{name_at}
+use Rattle.sz_scope.specs.Names.{name_at}
 use Rattle.sz_scope.specs.Chain.{IsNested, IsNamed, declaration_of, blocks_of}
-use Rattle.sz_names.proofs.NamesLemmas.{at_place, name_at_stays}
+use Rattle.sz_scope.proofs.NamesLemmas.{at_place, name_at_stays}
 
 module _ (names : List (List ℕ)) (entries : List Entry) where
   -- as many blocks as are counted
@@ -15,17 +15,20 @@ module _ (names : List (List ℕ)) (entries : List Entry) where
   length_blocks (suc depth) = ap (λ n. suc n) (length_blocks depth)
 
   -- an entry that is as deep as all these blocks is in none of them
-  pub blocks_without : (entry : Entry) (depth : ℕ) → depth ≤ entry.depth → blocks_of names (entry ∷ entries) depth ≡ blocks_of names entries depth
+  pub blocks_without : (entry : Entry) (depth : ℕ) → depth ≤ entry.depth
+      → blocks_of names (entry ∷ entries) depth ≡ blocks_of names entries depth
   blocks_without entry zero h = refl
   blocks_without entry (suc depth) h =
-      λ i. map (declaration_of names) (cond-false (entry.depth == depth) (entry ∷ rest) rest (ne_eqb entry.depth depth (λ p. omega (arith, p, h))) i)
+      λ i. map (declaration_of names)
+      (cond-false (entry.depth == depth) (entry ∷ rest) rest (ne_eqb entry.depth depth (λ p. omega (arith, p, h))) i)
       ∷ blocks_without entry depth (omega (arith, h)) i
     where
       rest : List Entry
       rest = filter (λ e. e.depth == depth) entries
 
 -- where all entries are less deep, a block has none
-pub none_deep : (entries : List Entry) (limit depth : ℕ) → limit ≤ depth → IsNested limit entries → filter (λ entry. entry.depth == depth) entries ≡ []
+pub none_deep : (entries : List Entry) (limit depth : ℕ) → limit ≤ depth → IsNested limit entries
+    → filter (λ entry. entry.depth == depth) entries ≡ []
 none_deep [] limit depth l h = refl
 none_deep (entry ∷ entries) limit depth l h =
     cond-false (entry.depth == depth) (entry ∷ rest) rest (ne_eqb entry.depth depth (λ p. omega (arith, p, l, h.0)))
@@ -37,13 +40,16 @@ none_deep (entry ∷ entries) limit depth l h =
 -- a new block is empty
 pub block_opened : (names : List (List ℕ)) (entries : List Entry) (depth : ℕ) → IsNested depth entries
     → blocks_of names entries (suc depth) ≡ [] ∷ blocks_of names entries depth
-block_opened names entries depth h = ap (λ l. map (declaration_of names) l ∷ blocks_of names entries depth) (none_deep entries depth depth (omega arith) h)
+block_opened names entries depth h = ap (λ l. map (declaration_of names) l ∷ blocks_of names entries depth)
+    (none_deep entries depth depth (omega arith) h)
 
 -- a declaration stands in the innermost block
 pub block_declared : (names : List (List ℕ)) (entry : Entry) (entries : List Entry) (depth : ℕ) → entry.depth ≡ depth
-    → blocks_of names (entry ∷ entries) (suc depth) ≡ with_declared (declaration_of names entry) (blocks_of names entries (suc depth))
+    → blocks_of names (entry ∷ entries) (suc depth)
+    ≡ with_declared (declaration_of names entry) (blocks_of names entries (suc depth))
 block_declared names entry entries depth p =
-    λ i. map (declaration_of names) (cond-true (entry.depth == depth) (entry ∷ rest) rest (eq-eqb entry.depth depth p) i)
+    λ i. map (declaration_of names)
+    (cond-true (entry.depth == depth) (entry ∷ rest) rest (eq-eqb entry.depth depth p) i)
     ∷ blocks_without names entries entry depth (omega (arith, p)) i
   where
     rest : List Entry
@@ -69,7 +75,8 @@ blocks_stay names name entries h (suc depth) = λ i. block_stays entries h i ∷
             (name_at_stays name names entry.name (at_place (name_at names entry.name) names entry.name h.0).0)
 
         by : (b : Bool) → map (declaration_of (names ++ name ∷ [])) rest ≡ map (declaration_of names) rest
-            → map (declaration_of (names ++ name ∷ [])) (cond b (entry ∷ rest) rest) ≡ map (declaration_of names) (cond b (entry ∷ rest) rest)
+            → map (declaration_of (names ++ name ∷ [])) (cond b (entry ∷ rest) rest)
+            ≡ map (declaration_of names) (cond b (entry ∷ rest) rest)
         by true p = λ i. same i ∷ p i
         by false p = p
 

@@ -1,3 +1,5 @@
+-- laws of places, for the crates above as well
+pub mod NamesLemmas
 mod ChainLemmas
 mod WayLemmas
 mod BlocksLemmas

@@ -3,9 +3,9 @@ use Rattle.std.proofs.Common.{◌≡◌, ℕ, zero, suc, ◌+◌, ◌<◌, ◌�
 use Rattle.std.proofs.lemmas.Bool.{cases_lt, cases_eq, eq-eqb, ne_eqb, cond-true, cond-false, lt-ltb, le-ltb}
 use Rattle.std.proofs.lemmas.List.{length-set, length_push}
 use Rattle.sz_scope.specs.declared.entry.Entry.{Entry}
-use Rattle.sz_names.specs.Names.{place_of, name_at}
+use Rattle.sz_scope.specs.Names.{place_of, name_at}
 use Rattle.sz_scope.specs.Chain.{latest, without_deeper, IsLinked, IsNested, IsNamed, IsWithin, IsIndexed, IsSound, HasRoomOf, KeepsSound, blocks_of}
-use Rattle.sz_names.proofs.NamesLemmas.{at_place, place_stays, name_at_stays}
+use Rattle.sz_scope.proofs.NamesLemmas.{at_place, place_stays, name_at_stays}
 use Rattle.sz_scope.proofs.ChainLemmas.{nested_weaker}
 use Rattle.sz_scope.proofs.BlocksLemmas.{blocks_stay, blocks_without, block_opened}
 
@@ -34,24 +34,29 @@ module _ {X : Type 0} where
   get_set_other (x ∷ xs) (suc i) (suc j) y n = get_set_other xs i j y (λ p. n (ap (λ k. suc k) p))
 
 -- the names of entries are among all names
-pub within_names : (names : List (List ℕ)) (count : ℕ) (entries : List Entry) → length names ≤ count → IsNamed names entries → IsWithin count entries
+pub within_names : (names : List (List ℕ)) (count : ℕ) (entries : List Entry) → length names ≤ count
+    → IsNamed names entries → IsWithin count entries
 within_names names count [] l h = tt
-within_names names count (entry ∷ entries) l h =
-    (omega (arith, l, (at_place (name_at names entry.name) names entry.name h.0).0), within_names names count entries l h.1)
+within_names names count (entry ∷ entries) l h = (
+  omega (arith, l, (at_place (name_at names entry.name) names entry.name h.0).0),
+  within_names names count entries l h.1,
+)
 
 -- no entry has a name past these
-latest_past : (count name : ℕ) (entries : List Entry) → IsWithin count entries → count ≤ name → latest name entries ≡ None
+latest_past : (count name : ℕ) (entries : List Entry) → IsWithin count entries → count ≤ name
+    → latest name entries ≡ None
 latest_past count name [] h l = refl
 latest_past count name (entry ∷ entries) h l =
-    cond-false (entry.name == name) (Some (length entries)) (latest name entries) (ne_eqb entry.name name (λ p. omega (arith, p, l, h.0)))
-    ∙ latest_past count name entries h.1 l
+    cond-false (entry.name == name) (Some (length entries)) (latest name entries)
+    (ne_eqb entry.name name (λ p. omega (arith, p, l, h.0))) ∙ latest_past count name entries h.1 l
 
 -- one more name that has no entry
-pub indexed_more : (newest : List (Option ℕ)) (entries : List Entry) → IsWithin (length newest) entries → IsIndexed newest entries
-    → IsIndexed (newest ++ None ∷ []) entries
+pub indexed_more : (newest : List (Option ℕ)) (entries : List Entry) → IsWithin (length newest) entries
+    → IsIndexed newest entries → IsIndexed (newest ++ None ∷ []) entries
 indexed_more newest entries within indexed name h = by (cases_lt name (length newest))
   where
-    by : (name < length newest) ⊎ (length newest ≤ name) → slice_get (newest ++ None ∷ []) name ≡ Some (latest name entries)
+    by : (name < length newest) ⊎ (length newest ≤ name)
+        → slice_get (newest ++ None ∷ []) name ≡ Some (latest name entries)
     by (inl l) = get_before newest None name l ∙ indexed name l
     by (inr l) =
         let last : length newest ≡ name = omega (arith, l, h, length_push newest None) in
@@ -67,21 +72,28 @@ indexed_push newest entry entries indexed name h = by (cases_eq entry.name name)
     within = omega (arith, h, length-set newest entry.name (Some (length entries)))
 
     by : (entry.name ≡ name) ⊎ (entry.name ≡ name → ⊥)
-        → slice_get (set newest entry.name (Some (length entries))) name ≡ Some (if entry.name == name then Some (length entries) else latest name entries)
+        → slice_get (set newest entry.name (Some (length entries))) name
+        ≡ Some (if entry.name == name then Some (length entries) else latest name entries)
     by (inl p) =
         subst (λ n. slice_get (set newest n (Some (length entries))) name ≡ Some (Some (length entries))) (sym p)
         (get_set_same newest name (Some (length entries)) within)
-        ∙ ap (λ o. Some o) (sym (cond-true (entry.name == name) (Some (length entries)) (latest name entries) (eq-eqb entry.name name p)))
+        ∙ ap (λ o. Some o) (sym
+        (cond-true (entry.name == name) (Some (length entries)) (latest name entries) (eq-eqb entry.name name p)))
     by (inr n) =
         get_set_other newest entry.name name (Some (length entries)) n ∙ indexed name within
-        ∙ ap (λ o. Some o) (sym (cond-false (entry.name == name) (Some (length entries)) (latest name entries) (ne_eqb entry.name name n)))
+        ∙ ap (λ o. Some o) (sym
+        (cond-false (entry.name == name) (Some (length entries)) (latest name entries) (ne_eqb entry.name name n)))
 
 -- room for one more name
 pub room_more : (newest : List (Option ℕ)) → HasRoomOf newest (newest ++ None ∷ [])
-room_more newest = record { room = omega (arith, length_push newest None); indexed = λ entries. indexed_more newest entries }
+room_more newest = record {
+  room = omega (arith, length_push newest None);
+  indexed = λ entries. indexed_more newest entries;
+}
 
 -- more room keeps all that is sound
-pub keeps_room : (names : List (List ℕ)) (newest others : List (Option ℕ)) → HasRoomOf newest others → KeepsSound names names newest others
+pub keeps_room : (names : List (List ℕ)) (newest others : List (Option ℕ)) → HasRoomOf newest others
+    → KeepsSound names names newest others
 keeps_room names newest others h = record {
   sound = λ entries depth s. record {
     room = omega (arith, s.room, h.room);
@@ -95,7 +107,8 @@ keeps_room names newest others h = record {
 
 -- so does a name that is added, if there is room for it
 pub keeps_added : (names : List (List ℕ)) (name : List ℕ) (newest others : List (Option ℕ)) → HasRoomOf newest others
-    → (length names ≤ length newest → length names < length others) → KeepsSound names (names ++ name ∷ []) newest others
+    → (length names ≤ length newest → length names < length others)
+    → KeepsSound names (names ++ name ∷ []) newest others
 keeps_added names name newest others h room = record {
   sound = λ entries depth s. record {
     room = omega (arith, room s.room, length_push names name);
@@ -117,9 +130,10 @@ keeps_added names name newest others h room = record {
         )
 
 -- an entry that is added in the innermost block
-pub sound_declared : (names : List (List ℕ)) (newest : List (Option ℕ)) (entry : Entry) (entries : List Entry) (depth : ℕ)
-    → IsSound names newest entries (suc depth)
-    → entry.depth ≡ depth → place_of (name_at names entry.name) names ≡ Some entry.name → entry.hidden ≡ latest entry.name entries
+pub sound_declared : (names : List (List ℕ)) (newest : List (Option ℕ)) (entry : Entry)
+    (entries : List Entry) (depth : ℕ) → IsSound names newest entries (suc depth)
+    → entry.depth ≡ depth → place_of (name_at names entry.name) names ≡ Some entry.name
+    → entry.hidden ≡ latest entry.name entries
     → IsSound names (set newest entry.name (Some (length entries))) (entry ∷ entries) (suc depth)
 sound_declared names newest entry entries depth s deep named hidden = record {
   room = omega (arith, s.room, length-set newest entry.name (Some (length entries)));
@@ -137,30 +151,47 @@ module _ (names : List (List ℕ)) (depth : ℕ) where
     pub nested : IsNested depth left
     pub blocks : blocks_of names left depth ≡ blocks_of names entries depth
 
-  left : (entries : List Entry) → IsNamed names entries → IsLinked entries → IsNested (suc depth) entries → IsLeft entries (without_deeper depth entries)
+  left : (entries : List Entry) → IsNamed names entries → IsLinked entries → IsNested (suc depth) entries
+      → IsLeft entries (without_deeper depth entries)
   left [] named linked nested = record { named = tt; linked = tt; nested = tt; blocks = refl }
   left (entry ∷ entries) named linked nested =
       by (cases_lt entry.depth depth)
-      (λ l. left entries named.1 linked.1 (nested_weaker entries (suc entry.depth) (suc depth) (omega (arith, nested.0)) nested.1))
+      (λ l. left entries named.1 linked.1
+      (nested_weaker entries (suc entry.depth) (suc depth) (omega (arith, nested.0)) nested.1))
     where
-      by : (entry.depth < depth) ⊎ (depth ≤ entry.depth) → (depth ≤ entry.depth → IsLeft entries (without_deeper depth entries))
+      by : (entry.depth < depth) ⊎ (depth ≤ entry.depth)
+          → (depth ≤ entry.depth → IsLeft entries (without_deeper depth entries))
           → IsLeft (entry ∷ entries) (without_deeper depth (entry ∷ entries))
       by (inl l) rest =
           subst (IsLeft (entry ∷ entries))
-          (sym (cond-true (nat_lt entry.depth depth) (entry ∷ entries) (without_deeper depth entries) (lt-ltb entry.depth depth l)))
+          (sym (cond-true (nat_lt entry.depth depth) (entry ∷ entries) (without_deeper depth entries)
+          (lt-ltb entry.depth depth l)))
           (record { named = named; linked = linked; nested = (l, nested.1); blocks = refl })
       by (inr l) rest =
           let r = rest l in
           subst (IsLeft (entry ∷ entries))
-          (sym (cond-false (nat_lt entry.depth depth) (entry ∷ entries) (without_deeper depth entries) (le-ltb entry.depth depth l)))
-          (record { named = r.named; linked = r.linked; nested = r.nested; blocks = r.blocks ∙ sym (blocks_without names entries entry depth l) })
+          (sym (cond-false (nat_lt entry.depth depth) (entry ∷ entries) (without_deeper depth entries)
+          (le-ltb entry.depth depth l)))
+          (record {
+            named = r.named;
+            linked = r.linked;
+            nested = r.nested;
+            blocks = r.blocks ∙ sym (blocks_without names entries entry depth l);
+          })
 
   -- what is left is sound
-  pub sound_closed : (newest others : List (Option ℕ)) (entries : List Entry) → IsSound names newest entries (suc depth) → length others ≡ length newest
+  pub sound_closed : (newest others : List (Option ℕ)) (entries : List Entry)
+      → IsSound names newest entries (suc depth) → length others ≡ length newest
       → IsIndexed others (without_deeper depth entries) → IsSound names others (without_deeper depth entries) depth
   sound_closed newest others entries s same indexed =
       let r = left entries s.named s.linked s.nested in
-      record { room = omega (arith, s.room, same); named = r.named; indexed = indexed; linked = r.linked; nested = r.nested }
+      record {
+        room = omega (arith, s.room, same);
+        named = r.named;
+        indexed = indexed;
+        linked = r.linked;
+        nested = r.nested;
+      }
 
   -- and the outer blocks are as they were
   pub blocks_closed : (newest : List (Option ℕ)) (entries : List Entry) → IsSound names newest entries (suc depth)
@@ -168,7 +199,8 @@ module _ (names : List (List ℕ)) (depth : ℕ) where
   blocks_closed newest entries s = (left entries s.named s.linked s.nested).blocks
 
 -- the entries that are left to take out: those taken out so far were deep enough
-pub record IsClosing (depth : ℕ) (old : List Entry) (total : ℕ) (entries : List Entry) (newest : List (Option ℕ)) : Type 0 where
+pub record IsClosing (depth : ℕ) (old : List Entry) (total : ℕ) (entries : List Entry)
+    (newest : List (Option ℕ)) : Type 0 where
   pub rest : without_deeper depth (reverse entries) ≡ without_deeper depth (reverse old)
   pub count : length newest ≡ total
   pub within : IsWithin total (reverse entries)
@@ -176,7 +208,8 @@ pub record IsClosing (depth : ℕ) (old : List Entry) (total : ℕ) (entries : L
   pub indexed : IsIndexed newest (reverse entries)
 
 -- a block that is opened
-module _ (names : List (List ℕ)) (newest : List (Option ℕ)) (entries : List Entry) (depth : ℕ) (sound : IsSound names newest entries depth) where
+module _ (names : List (List ℕ)) (newest : List (Option ℕ)) (entries : List Entry) (depth : ℕ)
+    (sound : IsSound names newest entries depth) where
   more : suc depth ≡ depth + 1
   more = omega arith
 

@@ -16,7 +16,8 @@ Block = List Declaration
 -- what the name means in the block, and nothing where the block doesn't have it
 abbrev pub found_in : List ℕ → Block → Option Meaning
 found_in name [] = None
-found_in name (declaration ∷ block) = if bytes_eq name declaration.name then Some declaration.what else found_in name block
+found_in name (declaration ∷ block) =
+    if bytes_eq name declaration.name then Some declaration.what else found_in name block
 
 -- what the name means in the blocks, the innermost first: what it means in the innermost one that has it
 abbrev pub found : List ℕ → List Block → Option Meaning

@@ -27,7 +27,8 @@ sees Static depth what = not (is_table what) && not (is_of_record what)
 -- the blocks without the declarations that fail a test of their depth and meaning
 abbrev pub blocks_where : (ℕ → Meaning → Bool) → List Block → List Block
 blocks_where test [] = []
-blocks_where test (block ∷ blocks) = filter (λ declaration. test (length blocks) declaration.what) block ∷ blocks_where test blocks
+blocks_where test (block ∷ blocks) =
+    filter (λ declaration. test (length blocks) declaration.what) block ∷ blocks_where test blocks
 
 -- the blocks without what isn't seen
 abbrev pub seen_blocks : Sight → List Block → List Block

@@ -2,14 +2,13 @@
 ghost use Rattle.std.specs.Prelude.{◌≡◌, ◌<◌, ◌≤◌, ◌++◌, ◌∷◌, [], ◌==◌, ℕ, suc, true, false, length, reverse, slice_get, set, Option, None, Some, IfOk, OnOk, OnErr, IfSome, IfNone};
 ghost use Rattle.std.specs.Option.{option_copied, option_map, ForSome};
 ghost use Rattle.sz_scope.specs.Chain.{without_deeper, HasRoomOf, IsIndexed, IsLinked, IsWithin, FindsNewest, KeepsSound, TellsTwice};
-ghost use Rattle.sz_names.specs.Names.{place_of};
+ghost use Rattle.sz_scope.specs.Names.{place_of};
 ghost use Rattle.sz_scope.specs.Sight.{sees};
 
-use crate::NoMemory;
 use crate::entry::Entry;
 use crate::meaning::Meaning;
 use crate::sight::Sight;
-use sz_names::Names;
+use crate::{Names, NoMemory};
 
 // Takes the last entry out, if `depth` blocks or more are open round it.
 fn pop_deeper(entries: &mut Vec<Entry>, depth: usize) -> Option<Entry>

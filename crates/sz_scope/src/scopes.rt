@@ -4,15 +4,14 @@ ghost use Rattle.std.specs.Option.{option_copied};
 ghost use Rattle.sz_scope.specs.Blocks.{found, is_declared, with_declared};
 ghost use Rattle.sz_scope.specs.Sight.{seen_blocks};
 
-use crate::NoMemory;
 use crate::chain::{find_seen, is_twice, newest_entry, place_for, push_entry, remove_deeper};
 use crate::entry::Entry;
 use crate::error::ScopeError;
 use crate::meaning::Meaning;
 use crate::sight::Sight;
+use crate::{Names, NoMemory};
 use std::alloc::{AllocError, Global};
 use std::marker::Model;
-use sz_names::Names;
 
 /// How many declarations have room at first.
 const FIRST_ROOM: usize = 4;

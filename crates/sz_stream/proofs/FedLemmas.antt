@@ -34,20 +34,28 @@ pub record Begins (given records : List (List ℕ)) (known : Option Ending) (end
   pub ending_is : (e : Ending) → known ≡ Some e → ending ≡ e
 
 module _ (done : Done) (frame : Frame) (framer : FramerData) (read : List ℕ) (over : Bool) (given : List (List ℕ)) where
-  pub begins : (known : Option Ending) → IsFed done frame framer known read over given → (input : List ℕ) → GoesOn read over input
-      → (records : List (List ℕ)) (ending : Ending) → IsCut frame full done.bytes done.records input records ending → Begins given records known ending
+  pub begins : (known : Option Ending) → IsFed done frame framer known read over given → (input : List ℕ)
+      → GoesOn read over input → (records : List (List ℕ)) (ending : Ending)
+      → IsCut frame full done.bytes done.records input records ending → Begins given records known ending
   begins None fed input on records ending cut =
       let rest = cuts_rest framer fed.1 on.more in
       let whole = fed.0.goes_on on.more rest.records rest.ending rest.cut in
       let here = subst (λ bytes. IsCut frame full done.bytes done.records bytes records ending) on.begins cut in
-      let one = cut_once frame full done.bytes done.records (read ++ on.more) records (given ++ rest.records) ending rest.ending here whole in
+      let one = cut_once frame full done.bytes done.records (read ++ on.more) records
+      (given ++ rest.records) ending rest.ending here whole in
       record { more = rest.records; same = one.0; ends = λ e. absurd cc; ending_is = λ e k. absurd cc }
   begins (Some w) fed input on records ending cut =
       let one = cut_once frame full done.bytes done.records input records given ending w cut (fed.0 input on) in
-      record { more = []; same = one.0 ∙ sym (append-nil given); ends = λ e. refl; ending_is = λ e k. (let same : w ≡ e = cc in one.1 ∙ same) }
+      record {
+        more = [];
+        same = one.0 ∙ sym (append-nil given);
+        ends = λ e. refl;
+        ending_is = λ e k. (let same : w ≡ e = cc in one.1 ∙ same);
+      }
 
   -- no more records were given, with those that are done, than there may be
-  pub few_given : (known : Option Ending) → IsFed done frame framer known read over given → done.records ≤ 2 ^ 31 → done.records + length given ≤ 2 ^ 31
+  pub few_given : (known : Option Ending) → IsFed done frame framer known read over given → done.records ≤ 2 ^ 31
+      → done.records + length given ≤ 2 ^ 31
   few_given None fed low =
       let rest = cuts_rest framer fed.1 [] in
       let few = records_are_few frame full done.bytes done.records (read ++ []) (given ++ rest.records) rest.ending low
@@ -58,7 +66,8 @@ module _ (done : Done) (frame : Frame) (framer : FramerData) (read : List ℕ) (
       records_are_few frame full done.bytes done.records read given e low all
 
   -- a whole input was read to its end
-  pub whole_is_over : (known : Option Ending) → IsFed done frame framer known read over given → known ≡ Some Whole → over ≡ true
+  pub whole_is_over : (known : Option Ending) → IsFed done frame framer known read over given
+      → known ≡ Some Whole → over ≡ true
   whole_is_over None fed e = absurd cc
   whole_is_over (Some w) fed e = fed.1 (some_same w e)
     where
@@ -67,8 +76,9 @@ module _ (done : Done) (frame : Frame) (framer : FramerData) (read : List ℕ) (
 
 -- a piece was fed
 pub feeds_piece : (old new : FramerData) (piece : List ℕ) (before after : RecordsData) (ended : Option Ending)
-    → Feeds old new piece before.items after.items ended → EndAsFed old piece before after → ended ≡ new.ended → (length piece == 0) ≡ false
-    → (done : Done) (frame : Frame) (read : List ℕ) (given : List (List ℕ)) → HasReadBehind done.bytes done.records frame full old read given
+    → Feeds old new piece before.items after.items ended → EndAsFed old piece before after → ended ≡ new.ended
+    → (length piece == 0) ≡ false → (done : Done) (frame : Frame) (read : List ℕ) (given : List (List ℕ))
+    → HasReadBehind done.bytes done.records frame full old read given
     → old.ended ≡ None → HasTaken done frame new ended before after (read ++ piece) (length piece == 0) given
 feeds_piece old new piece before after ended feeds end_so is some done frame read given h none =
     let a = feeds done.bytes done.records frame full read given h in
@@ -83,18 +93,21 @@ feeds_piece old new piece before after ended feeds end_so is some done frame rea
   where
     by : (ended : Option Ending) → ended ≡ new.ended → (added : List (List ℕ))
         → HasReadBehind done.bytes done.records frame full new (read ++ piece) (given ++ added)
-        → ((e : Ending) → ended ≡ Some e → (more : List ℕ) → IsCut frame full done.bytes done.records (read ++ piece ++ more) (given ++ added) e)
+        → ((e : Ending) → ended ≡ Some e → (more : List ℕ)
+        → IsCut frame full done.bytes done.records (read ++ piece ++ more) (given ++ added) e)
         → IsFed done frame new ended (read ++ piece) (length piece == 0) (given ++ added)
     by None is added h fixed = (h, sym is, some)
     by (Some e) is added h fixed = (
-      λ input on. subst (λ bytes. IsCut frame full done.bytes done.records bytes (given ++ added) e) (sym on.begins) (fixed e refl on.more),
+      λ input on. subst (λ bytes. IsCut frame full done.bytes done.records bytes (given ++ added) e) (sym on.begins)
+          (fixed e refl on.more),
       λ whole. absurd (h.early (sym is ∙ ap (λ w. Some w) whole)),
     )
 
 -- the end was read
-pub ends_input : (old new : FramerData) (piece : List ℕ) (before after : RecordsData) (e : Ending) → Finishes old before.items after.items e
-    → EndAsFinished old before after → (length piece == 0) ≡ true
-    → (done : Done) (frame : Frame) (read : List ℕ) (given : List (List ℕ)) → HasReadBehind done.bytes done.records frame full old read given
+pub ends_input : (old new : FramerData) (piece : List ℕ) (before after : RecordsData) (e : Ending)
+    → Finishes old before.items after.items e → EndAsFinished old before after → (length piece == 0) ≡ true
+    → (done : Done) (frame : Frame) (read : List ℕ) (given : List (List ℕ))
+    → HasReadBehind done.bytes done.records frame full old read given
     → old.ended ≡ None → HasTaken done frame new (Some e) before after (read ++ piece) (length piece == 0) given
 ends_input old new piece before after e finishes end_so none done frame read given h ended =
     let c = finishes done.bytes done.records frame full read given h in
@@ -102,14 +115,17 @@ ends_input old new piece before after e finishes end_so none done frame read giv
       added = c.added;
       gained = c.gained;
       fed = (
-        λ input on. subst (λ bytes. IsCut frame full done.bytes done.records bytes (given ++ c.added) e) (sym (all input piece on none)) c.cut,
+        λ input on. subst (λ bytes. IsCut frame full done.bytes done.records bytes (given ++ c.added) e)
+            (sym (all input piece on none)) c.cut,
         λ whole. none,
       );
       ends = λ rest on.
-          subst (λ bytes. EndSo done.bytes done.records frame full bytes (length given) before after) (sym (all rest piece on none))
-          (end_so done.bytes done.records frame full read given h);
+          subst (λ bytes. EndSo done.bytes done.records frame full bytes (length given) before after)
+          (sym (all rest piece on none)) (end_so done.bytes done.records frame full read given h);
     }
   where
-    all : (input : List ℕ) (piece : List ℕ) → GoesOn (read ++ piece) (length piece == 0) input → (length piece == 0) ≡ true → input ≡ read
-    all input [] on is = on.begins ∙ ap (λ more. read ++ [] ++ more) (on.ends refl) ∙ append-nil (read ++ []) ∙ append-nil read
+    all : (input : List ℕ) (piece : List ℕ) → GoesOn (read ++ piece) (length piece == 0) input
+        → (length piece == 0) ≡ true → input ≡ read
+    all input [] on is = on.begins ∙ ap (λ more. read ++ [] ++ more) (on.ends refl) ∙ append-nil (read ++ [])
+        ∙ append-nil read
     all input (b ∷ bytes) on is = absurd (let no = eqb-true (length (b ∷ bytes)) 0 is in omega (arith, no))

@@ -8,8 +8,8 @@ use Rattle.sz_attempt.specs.declared.job.Job.{Job}
 use Rattle.sz_attempt.specs.Shards.{ShardData}
 use Rattle.sz_attempt.specs.Yields.{Faulting, yield_of, means}
 use Rattle.sz_attempt.specs.Attempts.{shard_means, is_lost}
-use Rattle.sz_rounds.specs.Outcomes.{ShardsEnd, emitted, faulted, lost, then_shards, outcome_from, faults_in, all_records}
-use Rattle.sz_rounds.proofs.OutcomeLemmas.{fault_count, none_beyond, emitted_yields}
+use Rattle.sz_workers.specs.Outcomes.{ShardsEnd, emitted, faulted, lost, then_shards, outcome_from, faults_in, all_records}
+use Rattle.sz_workers.proofs.OutcomeLemmas.{fault_count, none_beyond, emitted_yields}
 
 -- shards that give their emits have no more records that fault than may be passed over
 pub few_passed : (job : Job) (passed : ℕ) (shards : List ShardData) (es : List EmitDatum) (n : ℕ) → passed ≤ job.skip
@@ -19,14 +19,16 @@ few_passed job passed [] es n low is = let none : n ≡ 0 = same es n is in omeg
     same : (es : List EmitDatum) (n : ℕ) → emitted [] 0 ≡ emitted es n → n ≡ 0
     same es n e = cc
 few_passed job passed (s ∷ shards) es n low is =
-    by (is_lost job s) (slice_get (shard_means job s).faults (job.skip - passed)) refl (outcome_from job (passed + fault_count job s) shards)
+    by (is_lost job s) (slice_get (shard_means job s).faults (job.skip - passed)) refl
+    (outcome_from job (passed + fault_count job s) shards)
     (λ few gs k. few_passed job (passed + fault_count job s) shards gs k few) is
   where
     same : (a b : List EmitDatum) (k m : ℕ) → emitted a k ≡ emitted b m → k ≡ m
     same a b k m e = cc
 
-    by : (b : Bool) (o : Option Faulting) → slice_get (shard_means job s).faults (job.skip - passed) ≡ o → (e : ShardsEnd)
-        → (passed + fault_count job s ≤ job.skip → (gs : List EmitDatum) (k : ℕ) → e ≡ emitted gs k → passed + fault_count job s + k ≤ job.skip)
+    by : (b : Bool) (o : Option Faulting) → slice_get (shard_means job s).faults (job.skip - passed) ≡ o
+        → (e : ShardsEnd) → (passed + fault_count job s ≤ job.skip → (gs : List EmitDatum) (k : ℕ) → e ≡ emitted gs k
+        → passed + fault_count job s + k ≤ job.skip)
         → (if b then lost s.number else then_shards (shard_means job s) o e) ≡ emitted es n → passed + n ≤ job.skip
     by true o found e rest h = absurd cc
     by false (Some one) found e rest h = absurd cc
@@ -49,7 +51,8 @@ module _ (job : Job) where
         arith,
         rest,
         here,
-        length-append (yield_of number (mean job.compiled job.statics job.budget r)).faults (means job (suc number) records).faults,
+        length-append (yield_of number (mean job.compiled job.statics job.budget r)).faults
+            (means job (suc number) records).faults,
       )
     where
       one : (o : Outcome (List EmitDatum)) → length (yield_of number o).faults ≤ 1
@@ -61,11 +64,17 @@ module _ (job : Job) where
   few_faults (s ∷ shards) =
       let rest = few_faults shards in
       let here = faults_are_few s.first s.records in
-      omega (arith, rest, here, length-append (shard_means job s).faults (faults_in job shards), length-append s.records (all_records shards))
+      omega (
+        arith,
+        rest,
+        here,
+        length-append (shard_means job s).faults (faults_in job shards),
+        length-append s.records (all_records shards),
+      )
 
   -- shards that give their emits have no more records that fault than there are
-  pub passed_records : (passed : ℕ) (shards : List ShardData) (es : List EmitDatum) (n : ℕ) → outcome_from job passed shards ≡ emitted es n
-      → n ≤ length (all_records shards)
+  pub passed_records : (passed : ℕ) (shards : List ShardData) (es : List EmitDatum) (n : ℕ)
+      → outcome_from job passed shards ≡ emitted es n → n ≤ length (all_records shards)
   passed_records passed shards es n is =
       let few = few_faults shards in
       let same = (emitted_yields job passed shards es n is).1 in

@@ -4,7 +4,8 @@ use Rattle.std.specs.Prelude.{slice_get}
 use Rattle.sz_records.specs.Cutting.{places_of}
 
 -- places, and those after them
-pub places_append : (place : ℕ → ℕ) (i n m : ℕ) → places_of place i n ++ places_of place (i + n) m ≡ places_of place i (n + m)
+pub places_append : (place : ℕ → ℕ) (i n m : ℕ)
+    → places_of place i n ++ places_of place (i + n) m ≡ places_of place i (n + m)
 places_append place i zero m =
     ap (λ k. places_of place k m) (let same : i + 0 ≡ i = omega arith in same)
     ∙ ap (places_of place i) (let same : m ≡ 0 + m = omega arith in same)
@@ -30,7 +31,8 @@ pub last_place : (place : ℕ → ℕ) (i count j : ℕ) → j < count → get_o
 last_place place i zero j less = absurd (omega (arith, less))
 last_place place i (suc count) zero less = let same : suc i ≡ i + 1 = omega arith in ap place same
 last_place place i (suc count) (suc j) less =
-    last_place place (suc i) count j (omega (arith, less)) ∙ ap place (let same : suc i + suc j ≡ i + suc (suc j) = omega arith in same)
+    last_place place (suc i) count j (omega (arith, less))
+    ∙ ap place (let same : suc i + suc j ≡ i + suc (suc j) = omega arith in same)
 
 -- what stands there
 pub got_there : (l : List ℕ) (i x : ℕ) → slice_get l i ≡ Some x → x ≡ get_or l i 0

@@ -20,8 +20,8 @@ use Rattle.sz_records.specs.Shards.{AreShards}
 use Rattle.sz_records.proofs.FedLemmas.{read_within}
 use Rattle.sz_attempt.specs.declared.job.Job.{Job}
 use Rattle.sz_attempt.specs.Ends.{StandForEmits}
-use Rattle.sz_rounds.specs.Outcomes.{emitted, outcome_from}
-use Rattle.sz_rounds.specs.Rounds.{shards_of}
+use Rattle.sz_workers.specs.Outcomes.{emitted, outcome_from}
+use Rattle.sz_workers.specs.Rounds.{shards_of}
 use Rattle.sz_stream.specs.declared.done.Done.{Done}
 use Rattle.sz_stream.specs.declared.intake.Intake.{Intake}
 use Rattle.sz_stream.specs.declared.stop.Stop.{Stop}

@@ -16,13 +16,13 @@ use Rattle.sz_attempt.specs.declared.job.Job.{Job}
 use Rattle.sz_attempt.specs.declared.job.Shard.{Shard}
 use Rattle.sz_attempt.specs.Shards.{IsJob, IsShardIn, ShardData}
 use Rattle.sz_attempt.specs.Ends.{StandForEmits}
-use Rattle.sz_rounds.specs.declared.round.Round.{Round}
-use Rattle.sz_rounds.specs.Outcomes.{ShardsEnd, emitted, faulted, lost, after_front, then_outcome, outcome_from, all_records}
-use Rattle.sz_rounds.specs.Rounds.{shards_of, numbered, AreNext, IsRound}
-use Rattle.sz_rounds.specs.Cuts.{ranges_of, cut_into}
-use Rattle.sz_rounds.proofs.OutcomeLemmas.{after_nothing, later_both, outcome-append}
-use Rattle.sz_rounds.proofs.CountLemmas.{few_of_shards}
-use Rattle.sz_rounds.proofs.RangeLemmas.{numbered_cut}
+use Rattle.sz_workers.specs.declared.round.Round.{Round}
+use Rattle.sz_workers.specs.Outcomes.{ShardsEnd, emitted, faulted, lost, after_front, then_outcome, outcome_from, all_records}
+use Rattle.sz_workers.specs.Rounds.{shards_of, numbered, AreNext, IsRound}
+use Rattle.sz_workers.specs.Cuts.{ranges_of, cut_into}
+use Rattle.sz_workers.proofs.OutcomeLemmas.{after_nothing, later_both, outcome-append}
+use Rattle.sz_workers.proofs.CountLemmas.{few_of_shards}
+use Rattle.sz_workers.proofs.RangeLemmas.{numbered_cut}
 use Rattle.sz_stream.specs.declared.done.Done.{Done}
 use Rattle.sz_stream.specs.declared.intake.Intake.{Intake}
 use Rattle.sz_stream.specs.declared.stop.Stop.{Stop}
@@ -37,14 +37,18 @@ use Rattle.sz_stream.proofs.FedLemmas.{begins, few_given}
 use Rattle.sz_stream.proofs.ClosingLemmas.{items_stay, same_front}
 use Rattle.sz_stream.proofs.PassedLemmas.{few_passed, passed_records}
 
--- what comes of shards with these sizes, after shards with these emits of whose records so many were passed over, with those before them so many
+-- what comes of shards with these sizes, after shards with these emits of whose records so many were passed over,
+-- with those before them so many
 abbrev rest_of : Job → List EmitDatum → ℕ → ℕ → ℕ → ℕ → List (List ℕ) → List ℕ → ShardsEnd
-rest_of job emits before passed number first records sizes = after_front emits before (outcome_from job passed (cut_into number first records sizes))
+rest_of job emits before passed number first records sizes =
+    after_front emits before (outcome_from job passed (cut_into number first records sizes))
 
-same_rest : {p q n m f g : ℕ} (job : Job) (emits : List EmitDatum) (before : ℕ) (rest : List (List ℕ)) (sizes : List ℕ) → p ≡ q → n ≡ m → f ≡ g
+same_rest : {p q n m f g : ℕ} (job : Job) (emits : List EmitDatum) (before : ℕ) (rest : List (List ℕ))
+    (sizes : List ℕ) → p ≡ q → n ≡ m → f ≡ g
     → rest_of job emits before p n f rest sizes ≡ rest_of job emits before q m g rest sizes
 same_rest {p = p} {q = q} {n = n} {m = m} {f = f} {g = g} job emits before rest sizes passed number first =
-    ap (λ k. rest_of job emits before k n f rest sizes) passed ∙ ap (λ k. rest_of job emits before q k f rest sizes) number
+    ap (λ k. rest_of job emits before k n f rest sizes) passed
+    ∙ ap (λ k. rest_of job emits before q k f rest sizes) number
     ∙ ap (λ k. rest_of job emits before q m k rest sizes) first
 
 -- a round without shards is small
@@ -53,7 +57,8 @@ no_shards intake none = record { few = omega (arith, none); small = λ some. abs
 
 -- before anything is read
 module _ (done : Done) (job : Job) (frame : Frame) (most : ℕ) (intake : Intake) where
-  pub starts : 1 ≤ most → CanGoOn done → done.passed ≤ job.skip → IsEmpty frame most done intake → IsRunning done job frame most intake [] [] false
+  pub starts : 1 ≤ most → CanGoOn done → done.passed ≤ job.skip → IsEmpty frame most done intake
+      → IsRunning done job frame most intake [] [] false
   starts low can passed empty =
       let none = ap (λ (r : Round). length r.records.items) empty.round in
       record {
@@ -73,7 +78,8 @@ module _ (done : Done) (job : Job) (frame : Frame) (most : ℕ) (intake : Intake
         ends = λ rest on.
             ap (λ (r : Round). r.records.ends) empty.round
             ∙ ap (λ n. ends_in done.bytes done.records frame full rest (0 - n) n) (sym none);
-        numbers = (let number = ap (λ (r : Round). r.first_shard) empty.round in omega (arith, number, empty.first, can.shards));
+        numbers = (let number = ap (λ (r : Round). r.first_shard) empty.round in
+            omega (arith, number, empty.first, can.shards));
         run = record {
           count = 0;
           begun = omega (arith, empty.first);
@@ -87,29 +93,42 @@ module _ (done : Done) (job : Job) (frame : Frame) (most : ℕ) (intake : Intake
             are = subst (λ (r : Round). AreShards most (r.records.items ++ more) all) (sym empty.round) are;
             goes_on =
                 after_nothing (outcome_from job done.passed (cut_into done.shards (done.records + 1) more all))
-                ∙ ap (λ (r : Round). rest_of job [] 0 r.passed r.first_shard (done.records + 1) (r.records.items ++ more) all) (sym empty.round)
-                ∙ ap (λ n. rest_of job [] 0 intake.round.passed intake.round.first_shard n (intake.round.records.items ++ more) all) (sym empty.first);
+                ∙ ap (λ (r : Round). rest_of job [] 0 r.passed r.first_shard (done.records + 1)
+                (r.records.items ++ more) all) (sym empty.round) ∙ ap (λ n. rest_of job [] 0 intake.round.passed
+                intake.round.first_shard n (intake.round.records.items ++ more) all) (sym empty.first);
           };
         };
       }
 
-module _ (done : Done) (job : Job) (frame : Frame) (most : ℕ) (old : Intake) (emits : List EmitDatum) (read : List ℕ) (over : Bool)
+module _ (done : Done) (job : Job) (frame : Frame) (most : ℕ) (old : Intake) (emits : List EmitDatum)
+    (read : List ℕ) (over : Bool)
     (h : IsRunning done job frame most old emits read over) where
   -- there are no more records than there may be
   pub few_left : old.first + length old.round.records.items ≤ 2 ^ 31 + 1
-  few_left = let few = few_given done frame old.framer read over h.given old.ending h.fed h.can.records in omega (arith, few, h.count)
+  few_left = let few = few_given done frame old.framer read over h.given old.ending h.fed h.can.records in
+      omega (arith, few, h.count)
 
   -- those at hand are among those that were given
   pub at_hand : length old.round.records.items ≤ length h.given
   at_hand = omega (arith, ap length h.given_is, length-append h.front old.round.records.items)
 
   pub closed_within : old.closed ≤ length old.round.records.items
-  closed_within = let within = sum_within most (is_some old.ending) old.round.records.items h.sizes h.are in omega (arith, within, h.closed)
+  closed_within = let within = sum_within most (is_some old.ending) old.round.records.items h.sizes h.are in
+      omega (arith, within, h.closed)
 
   pub few_numbers : old.round.first_shard + length old.round.shards ≤ 2 ^ 31 + 1
   few_numbers =
       let fewer = fewer_shards most (is_some old.ending) old.round.records.items h.sizes h.are in
-      omega (arith, few_left, closed_within, fewer, h.closed, h.numbers, ap length h.shards, length-ranges 0 old.first h.sizes)
+      omega (
+        arith,
+        few_left,
+        closed_within,
+        fewer,
+        h.closed,
+        h.numbers,
+        ap length h.shards,
+        length-ranges 0 old.first h.sizes,
+      )
 
   -- where the round has a shard, it has a record
   pub some_closed : 0 < length old.round.shards → 0 < old.closed
@@ -125,18 +144,21 @@ module _ (done : Done) (job : Job) (frame : Frame) (most : ℕ) (old : Intake) (
       by (n ∷ ns) e = absurd (omega (arith, e))
 
   -- a piece is taken in
-  module _ (new : Intake) (piece : List ℕ) (more_comes : old.ending ≡ None) (taken : TakesIn old new piece) (kept : KeepsRound old new) where
+  module _ (new : Intake) (piece : List ℕ) (more_comes : old.ending ≡ None) (taken : TakesIn old new piece)
+      (kept : KeepsRound old new) where
     fed_before : IsFed done frame old.framer None read over h.given
     fed_before = subst (λ e. IsFed done frame old.framer e read over h.given) more_comes h.fed
 
-    has : HasTaken done frame new.framer new.ending old.round.records new.round.records (read ++ piece) (length piece == 0) h.given
+    has : HasTaken done frame new.framer new.ending old.round.records new.round.records (read ++ piece)
+        (length piece == 0) h.given
     has = taken done frame read h.given fed_before.0 fed_before.1
 
     not_ended : is_some old.ending ≡ false
     not_ended = ap is_some more_comes
 
     -- what was run stays so
-    has_run : HasRun done job most (is_some new.ending) (h.given ++ has.added) new.round.records.items new.round.first_shard new.first new.round.passed emits
+    has_run : HasRun done job most (is_some new.ending)
+        (h.given ++ has.added) new.round.records.items new.round.first_shard new.first new.round.passed emits
     has_run = record {
       count = h.run.count;
       begun = kept.first ∙ h.run.begun;
@@ -154,10 +176,11 @@ module _ (done : Done) (job : Job) (frame : Frame) (most : ℕ) (old : Intake) (
             sizes = before.sizes;
             are = subst (λ rs. AreShards most rs before.sizes) records before.are;
             goes_on =
-                ap (λ rs. outcome_from job done.passed (cut_into done.shards (done.records + 1) rs all)) (append_assoc h.given has.added more)
-                ∙ before.goes_on
-                ∙ ap (λ rs. rest_of job emits h.run.more_passed old.round.passed old.round.first_shard old.first rs before.sizes) records
-                ∙ same_rest job emits h.run.more_passed (new.round.records.items ++ more) before.sizes (sym kept.passed) (sym kept.first_shard) (sym kept.first);
+                ap (λ rs. outcome_from job done.passed (cut_into done.shards (done.records + 1) rs all))
+                (append_assoc h.given has.added more) ∙ before.goes_on ∙ ap (λ rs. rest_of job emits
+                h.run.more_passed old.round.passed old.round.first_shard old.first rs before.sizes) records
+                ∙ same_rest job emits h.run.more_passed (new.round.records.items ++ more) before.sizes
+                (sym kept.passed) (sym kept.first_shard) (sym kept.first);
           });
     }
 
@@ -171,7 +194,8 @@ module _ (done : Done) (job : Job) (frame : Frame) (most : ℕ) (old : Intake) (
 
     -- the new records end where they do
     ends_later : (rest : List ℕ) → GoesOn (read ++ piece) (length piece == 0) rest → new.round.records.ends
-        ≡ ends_in done.bytes done.records frame full rest (length (h.given ++ has.added) - length new.round.records.items)
+        ≡ ends_in done.bytes done.records frame full rest
+        (length (h.given ++ has.added) - length new.round.records.items)
         (length new.round.records.items)
     ends_later rest on =
         let place = place_after frame full done.bytes done.records rest in
@@ -184,7 +208,8 @@ module _ (done : Done) (job : Job) (frame : Frame) (most : ℕ) (old : Intake) (
         let from : length h.given - kept_ones ≡ length (h.given ++ has.added) - length new.round.records.items =
         omega (arith, came, all, at_hand) in
         has.ends rest on
-        ∙ ap (λ l. l ++ places_of place (length h.given) (length new.round.records.items - kept_ones)) (h.ends rest (on_before rest on))
+        ∙ ap (λ l. l ++ places_of place (length h.given) (length new.round.records.items - kept_ones))
+        (h.ends rest (on_before rest on))
         ∙ ap (λ n. places_of place (length h.given - kept_ones) kept_ones ++ places_of place (length h.given) n) added
         ∙ ap (λ n. places_of place (length h.given - kept_ones) kept_ones ++ places_of place n (length has.added)) at
         ∙ places_append place (length h.given - kept_ones) kept_ones (length has.added)
@@ -222,7 +247,14 @@ module _ (done : Done) (job : Job) (frame : Frame) (most : ℕ) (old : Intake) (
       shards = kept.shards ∙ h.shards ∙ ap (λ n. ranges_of 0 n h.sizes) (sym kept.first);
       fits = still_fits;
       closed = kept.closed ∙ h.closed;
-      count = omega (arith, h.count, kept.first, ap length has.gained, length-append old.round.records.items has.added, length-append h.given has.added);
+      count = omega (
+        arith,
+        h.count,
+        kept.first,
+        ap length has.gained,
+        length-append old.round.records.items has.added,
+        length-append h.given has.added,
+      );
       ends = ends_later;
       numbers = omega (arith, h.numbers, kept.first, kept.first_shard);
       run = has_run;
@@ -244,7 +276,8 @@ module _ (done : Done) (job : Job) (frame : Frame) (most : ℕ) (old : Intake) (
         (subst (λ e. AreClosed most (is_some e) old.round.records.items (h.sizes ++ c.sizes)) (sym c.ending)
         (are_more most (is_some old.ending) old.round.records.items h.sizes c.sizes h.are
         (subst (λ n. AreClosed most (is_some old.ending) (drop n old.round.records.items) c.sizes) h.closed
-        (subst (λ m. AreClosed m (is_some old.ending) (drop old.closed old.round.records.items) c.sizes) h.limit c.are))));
+        (subst (λ m. AreClosed m (is_some old.ending) (drop old.closed old.round.records.items) c.sizes)
+        h.limit c.are))));
     shards =
         c.shards
         ∙ ap (λ l. l ++ ranges_of old.closed (old.first + old.closed) c.sizes) h.shards
@@ -257,7 +290,8 @@ module _ (done : Done) (job : Job) (frame : Frame) (most : ℕ) (old : Intake) (
     count = omega (arith, h.count, c.first, ap length (items_stay c));
     ends = λ rest on.
         ap (λ (r : RecordsData). r.ends) c.records ∙ h.ends rest on
-        ∙ ap (λ n. ends_in done.bytes done.records frame full rest (length h.given - n) n) (sym (ap length (items_stay c)));
+        ∙ ap (λ n. ends_in done.bytes done.records frame full rest (length h.given - n) n)
+        (sym (ap length (items_stay c)));
     numbers = omega (arith, h.numbers, c.first, c.first_shard);
     run = record {
       count = h.run.count;
@@ -274,8 +308,9 @@ module _ (done : Done) (job : Job) (frame : Frame) (most : ℕ) (old : Intake) (
             are = subst (λ rs. AreShards most (rs ++ more) before.sizes) (sym (items_stay c)) before.are;
             goes_on =
                 before.goes_on
-                ∙ ap (λ rs. rest_of job emits h.run.more_passed old.round.passed old.round.first_shard old.first (rs ++ more) before.sizes) (sym (items_stay c))
-                ∙ same_rest job emits h.run.more_passed (new.round.records.items ++ more) before.sizes (sym c.passed) (sym c.first_shard) (sym c.first);
+                ∙ ap (λ rs. rest_of job emits h.run.more_passed old.round.passed old.round.first_shard old.first
+                (rs ++ more) before.sizes) (sym (items_stay c)) ∙ same_rest job emits h.run.more_passed
+                (new.round.records.items ++ more) before.sizes (sym c.passed) (sym c.first_shard) (sym c.first);
           });
     };
   }
@@ -286,7 +321,8 @@ module _ (done : Done) (job : Job) (frame : Frame) (most : ℕ) (old : Intake) (
   -- the shards at hand are a round
   pub is_round : IsRound old.round
   is_round =
-      let all = lie most (is_some old.ending) old.round.records.items 0 old.first h.sizes h.are (omega arith) (omega (arith, h.numbers)) few_left in
+      let all = lie most (is_some old.ending) old.round.records.items 0 old.first h.sizes h.are (omega arith)
+      (omega (arith, h.numbers)) few_left in
       record {
         few = h.fits.few;
         numbers = few_numbers;
@@ -306,7 +342,8 @@ module _ (done : Done) (job : Job) (frame : Frame) (most : ℕ) (old : Intake) (
   -- what comes of the shards after those of the round, where so many records of these were passed over
   abbrev later_of : List (List ℕ) → List ℕ → ℕ → ShardsEnd
   later_of more sizes n =
-      outcome_from job (old.round.passed + n) (cut_into (old.round.first_shard + length old.round.shards) (old.first + old.closed)
+      outcome_from job (old.round.passed + n)
+      (cut_into (old.round.first_shard + length old.round.shards) (old.first + old.closed)
       (drop old.closed old.round.records.items ++ more) sizes)
 
   -- what comes of all shards, by what comes of those of the round
@@ -314,36 +351,44 @@ module _ (done : Done) (job : Job) (frame : Frame) (most : ℕ) (old : Intake) (
     sizes : List ℕ
     are : AreShards most (drop old.closed old.round.records.items ++ more) sizes
     goes_on : outcome_from job done.passed (cut_into done.shards (done.records + 1) (h.given ++ more) all)
-        ≡ after_front emits h.run.more_passed (then_outcome (outcome_from job old.round.passed (shards_of old.round)) (later_of more sizes))
+        ≡ after_front emits h.run.more_passed
+        (then_outcome (outcome_from job old.round.passed (shards_of old.round)) (later_of more sizes))
 
-  follows : (more : List (List ℕ)) → (is_some old.ending ≡ true → more ≡ []) → (all : List ℕ) → AreShards most (h.given ++ more) all → Follows more all
+  follows : (more : List (List ℕ)) → (is_some old.ending ≡ true → more ≡ []) → (all : List ℕ)
+      → AreShards most (h.given ++ more) all → Follows more all
   follows more ends all are =
       let before = h.run.runs more ends all are in
       let s = split most (is_some old.ending) old.round.records.items more h.sizes before.sizes ends h.are before.are in
       let p = old.round.passed in
       let n = old.round.first_shard in
-      let with_rest = λ (shards : List ShardData) (k : ℕ) (f : ℕ) (c : ℕ). after_front emits h.run.more_passed (then_outcome (outcome_from job p shards)
+      let with_rest = λ (shards : List ShardData) (k : ℕ) (f : ℕ) (c : ℕ).
+      after_front emits h.run.more_passed (then_outcome (outcome_from job p shards)
       (λ m. outcome_from job (p + m) (cut_into k f (drop c old.round.records.items ++ more) s.later))) in
       record {
         sizes = s.later;
         are = subst (λ c. AreShards most (drop c old.round.records.items ++ more) s.later) (sym h.closed) s.are;
         goes_on =
             before.goes_on
-            ∙ ap (λ sizes. rest_of job emits h.run.more_passed p n old.first (old.round.records.items ++ more) sizes) s.same
-            ∙ ap (λ shards. after_front emits h.run.more_passed (outcome_from job p shards))
+            ∙ ap (λ sizes. rest_of job emits h.run.more_passed p n old.first (old.round.records.items ++ more) sizes)
+            s.same ∙ ap (λ shards. after_front emits h.run.more_passed (outcome_from job p shards))
             (cut_append most (is_some old.ending) n old.first old.round.records.items more h.sizes s.later h.are)
-            ∙ ap (after_front emits h.run.more_passed) (outcome-append job p (cut_into n old.first old.round.records.items h.sizes)
-            (cut_into (n + length h.sizes) (old.first + sum_of h.sizes) (drop (sum_of h.sizes) old.round.records.items ++ more) s.later))
-            ∙ ap (λ shards. with_rest shards (n + length h.sizes) (old.first + sum_of h.sizes) (sum_of h.sizes)) (sym of_round)
+            ∙ ap (after_front emits h.run.more_passed)
+            (outcome-append job p (cut_into n old.first old.round.records.items h.sizes)
+            (cut_into (n + length h.sizes) (old.first + sum_of h.sizes)
+            (drop (sum_of h.sizes) old.round.records.items ++ more) s.later))
+            ∙ ap (λ shards. with_rest shards (n + length h.sizes) (old.first + sum_of h.sizes) (sum_of h.sizes))
+            (sym of_round)
             ∙ ap (λ c. with_rest (shards_of old.round) (n + length h.sizes) (old.first + c) c) (sym h.closed)
             ∙ ap (λ k. with_rest (shards_of old.round) (n + k) (old.first + old.closed) old.closed)
             (sym (ap length h.shards ∙ length-ranges 0 old.first h.sizes));
       }
 
   -- a shard of the round decides
-  decides : (o : ShardsEnd) → ((front : List EmitDatum) (n : ℕ) (rest : ℕ → ShardsEnd) → after_front front n (then_outcome o rest) ≡ o)
+  decides : (o : ShardsEnd)
+      → ((front : List EmitDatum) (n : ℕ) (rest : ℕ → ShardsEnd) → after_front front n (then_outcome o rest) ≡ o)
       → outcome_from job old.round.passed (shards_of old.round) ≡ o → (input : List ℕ) → GoesOn read over input
-      → (records : List (List ℕ)) (ending : Ending) (sizes : List ℕ) → IsCut frame full done.bytes done.records input records ending → AreShards most records sizes
+      → (records : List (List ℕ)) (ending : Ending) (sizes : List ℕ)
+      → IsCut frame full done.bytes done.records input records ending → AreShards most records sizes
       → outcome_from job done.passed (cut_into done.shards (done.records + 1) records sizes) ≡ o
   decides o stays is input on records ending sizes cut are =
       let b = begins done frame old.framer read over h.given old.ending h.fed input on records ending cut in
@@ -353,8 +398,8 @@ module _ (done : Done) (job : Job) (frame : Frame) (most : ℕ) (old : Intake) (
       ∙ stays emits h.run.more_passed (later_of b.more f.sizes)
 
   -- so the run ends
-  pub round_stops : (stop : Stop) → StopsShards (outcome_from job old.round.passed (shards_of old.round)) stop → (input : List ℕ) → GoesOn read over input
-      → RunsBehind done job most frame input (Err stop)
+  pub round_stops : (stop : Stop) → StopsShards (outcome_from job old.round.passed (shards_of old.round)) stop
+      → (input : List ℕ) → GoesOn read over input → RunsBehind done job most frame input (Err stop)
   round_stops (stops.Fault n f) is = decides (faulted n (seen_fault f)) (λ front k rest. refl) is
   round_stops (stops.Lost n) is = decides (lost n) (λ front k rest. refl) is
   round_stops (stops.Damaged byte) is = absurd is
@@ -366,27 +411,33 @@ module _ (done : Done) (job : Job) (frame : Frame) (most : ℕ) (old : Intake) (
   pub so_many : length (all_records (shards_of old.round)) ≡ old.closed
   so_many =
       ap (λ l. length (all_records l)) of_round
-      ∙ length_cut most (is_some old.ending) old.round.first_shard old.first old.round.records.items h.sizes h.are ∙ sym h.closed
+      ∙ length_cut most (is_some old.ending) old.round.first_shard old.first old.round.records.items h.sizes h.are
+      ∙ sym h.closed
 
   -- the last of them ends where it does in each input that goes on so
-  pub done_place : 0 < old.closed → (rest : List ℕ) → GoesOn read over rest → get_or old.round.records.ends (old.closed - 1) 0
-      ≡ place_after frame full done.bytes done.records rest (length h.given - length old.round.records.items + old.closed)
+  pub done_place : 0 < old.closed → (rest : List ℕ) → GoesOn read over rest
+      → get_or old.round.records.ends (old.closed - 1) 0 ≡ place_after frame full done.bytes done.records rest
+      (length h.given - length old.round.records.items + old.closed)
   done_place some rest on =
       let place = place_after frame full done.bytes done.records rest in
       let all = length h.given - length old.round.records.items in
       let last : all + suc (old.closed - 1) ≡ all + old.closed = omega (arith, some) in
       ap (λ l. get_or l (old.closed - 1) 0) (h.ends rest on)
-      ∙ last_place place all (length old.round.records.items) (old.closed - 1) (omega (arith, some, closed_within)) ∙ ap place last
+      ∙ last_place place all (length old.round.records.items) (old.closed - 1) (omega (arith, some, closed_within))
+      ∙ ap place last
 
   -- the records of the round and those before them are so many
-  pub done_records : old.first - 1 + old.closed - done.records ≡ length h.given - length old.round.records.items + old.closed
+  pub done_records : old.first - 1 + old.closed - done.records
+      ≡ length h.given - length old.round.records.items + old.closed
   done_records = omega (arith, h.count, at_hand, h.run.begun)
 
   -- none decides
-  module _ (es : List EmitDatum) (n : ℕ) (is : outcome_from job old.round.passed (shards_of old.round) ≡ emitted es n) where
+  module _ (es : List EmitDatum) (n : ℕ)
+      (is : outcome_from job old.round.passed (shards_of old.round) ≡ emitted es n) where
     -- no more of its records fault
     fewer_passed : n ≤ old.closed
-    fewer_passed = let few = passed_records job old.round.passed (shards_of old.round) es n is in omega (arith, few, so_many)
+    fewer_passed = let few = passed_records job old.round.passed (shards_of old.round) es n is in
+        omega (arith, few, so_many)
 
     -- all emits so far are no more than the ticks of the records
     few_emits : length (emits ++ es) ≤ job.budget * (h.run.count + old.closed)
@@ -396,11 +447,12 @@ module _ (done : Done) (job : Job) (frame : Frame) (most : ℕ) (old : Intake) (
         omega (arith, here, h.run.few, mul-add job.budget h.run.count old.closed, length-append emits es)
 
     -- there is room for those of the round
-    pub has_room : (total part : TotalState) → StandForEmits job.compiled total emits → StandForEmits job.compiled part es → IsJob job
-        → total.count + part.count ≤ 2 ^ 63
+    pub has_room : (total part : TotalState) → StandForEmits job.compiled total emits
+        → StandForEmits job.compiled part es → IsJob job → total.count + part.count ≤ 2 ^ 63
     has_room total part stand standing job_is =
         let less : h.run.count + old.closed ≤ 2 ^ 31 = omega (arith, few_left, closed_within, h.run.begun) in
-        let most_emits = bound job.budget (h.run.count + old.closed) (length (emits ++ es)) few_emits job_is.budget.most less in
+        let most_emits =
+        bound job.budget (h.run.count + old.closed) (length (emits ++ es)) few_emits job_is.budget.most less in
         omega (arith, most_emits, length-append emits es, stand.stands.counted, standing.stands.counted)
       where
         bound : (b m n : ℕ) → n ≤ b * m → b ≤ 2 ^ 32 → m ≤ 2 ^ 31 → n ≤ 2 ^ 63
@@ -414,7 +466,8 @@ module _ (done : Done) (job : Job) (frame : Frame) (most : ℕ) (old : Intake) (
       front = h.front ++ take old.closed old.round.records.items;
       given_is =
           h.given_is ∙ ap (λ l. h.front ++ l) (sym (take-append-drop old.closed old.round.records.items))
-          ∙ sym (append_assoc h.front (take old.closed old.round.records.items) (drop old.closed old.round.records.items));
+          ∙ sym
+          (append_assoc h.front (take old.closed old.round.records.items) (drop old.closed old.round.records.items));
       fed = h.fed;
       low = h.low;
       limit = h.limit;
@@ -461,21 +514,24 @@ module _ (done : Done) (job : Job) (frame : Frame) (most : ℕ) (old : Intake) (
   pub record HasEnded (records : List (List ℕ)) (ending : Ending) (sizes : List ℕ) (e : Ending) : Type 0 where
     pub same : records ≡ h.given
     pub ending_is : ending ≡ e
-    pub outcome : outcome_from job done.passed (cut_into done.shards (done.records + 1) records sizes) ≡ emitted emits (h.run.more_passed + 0)
+    pub outcome : outcome_from job done.passed (cut_into done.shards (done.records + 1) records sizes)
+        ≡ emitted emits (h.run.more_passed + 0)
     pub counted : old.first - 1 ≡ done.records + length records
     pub within : done.records + length records ≤ 2 ^ 31
     pub few : length emits ≤ job.budget * length records
 
   -- no record is left
-  pub has_ended : (e : Ending) → old.ending ≡ Some e → length old.round.records.items ≡ 0 → (input : List ℕ) → GoesOn read over input
-      → (records : List (List ℕ)) (ending : Ending) (sizes : List ℕ) → IsCut frame full done.bytes done.records input records ending
+  pub has_ended : (e : Ending) → old.ending ≡ Some e → length old.round.records.items ≡ 0 → (input : List ℕ)
+      → GoesOn read over input → (records : List (List ℕ)) (ending : Ending) (sizes : List ℕ)
+      → IsCut frame full done.bytes done.records input records ending
       → AreShards most records sizes → HasEnded records ending sizes e
   has_ended e known none input on records ending sizes cut are =
       let b = begins done frame old.framer read over h.given old.ending h.fed input on records ending cut in
       let nothing_more : b.more ≡ [] = b.ends (ap is_some known) in
       let r = h.run.runs b.more b.ends sizes (subst (λ rs. AreShards most rs sizes) b.same are) in
       let no_rest : old.round.records.items ++ b.more ≡ [] =
-      ap (λ rs. old.round.records.items ++ rs) nothing_more ∙ append-nil old.round.records.items ∙ no_records old.round.records.items none in
+      ap (λ rs. old.round.records.items ++ rs) nothing_more ∙ append-nil old.round.records.items
+      ∙ no_records old.round.records.items none in
       let no_sizes : r.sizes ≡ [] = without r.sizes (subst (λ rs. AreShards most rs r.sizes) no_rest r.are) in
       let all : records ≡ h.given = b.same ∙ ap (λ rs. h.given ++ rs) nothing_more ∙ append-nil h.given in
       let count : h.run.count ≡ length records = omega (arith, ap length all, h.run.begun, h.count, none) in
@@ -484,8 +540,9 @@ module _ (done : Done) (job : Job) (frame : Frame) (most : ℕ) (old : Intake) (
         same = all;
         ending_is = b.ending_is e known;
         outcome =
-            ap (λ rs. outcome_from job done.passed (cut_into done.shards (done.records + 1) rs sizes)) b.same ∙ r.goes_on
-            ∙ ap (λ l. rest_of job emits h.run.more_passed old.round.passed old.round.first_shard old.first (old.round.records.items ++ b.more) l) no_sizes
+            ap (λ rs. outcome_from job done.passed (cut_into done.shards (done.records + 1) rs sizes)) b.same
+            ∙ r.goes_on ∙ ap (λ l. rest_of job emits h.run.more_passed old.round.passed old.round.first_shard
+            old.first (old.round.records.items ++ b.more) l) no_sizes
             ∙ ap (λ es. emitted es (h.run.more_passed + 0)) (append-nil emits);
         counted = omega (arith, count, h.run.begun);
         within = omega (arith, ap length all, few);
@@ -501,8 +558,9 @@ module _ (done : Done) (job : Job) (frame : Frame) (most : ℕ) (old : Intake) (
       without (n ∷ ns) a = absurd (omega (arith, a.0.some, a.0.within))
 
 -- the answer of a whole input, of which no record is left
-pub ends_run : (job : Job) (frame : Frame) (most : ℕ) (old : Intake) (emits : List EmitDatum) (read : List ℕ) (over : Bool)
-    → IsRunning nothing job frame most old emits read over → (total : TotalState) → StandForEmits job.compiled total emits → (e : Ending)
+pub ends_run : (job : Job) (frame : Frame) (most : ℕ) (old : Intake) (emits : List EmitDatum)
+    (read : List ℕ) (over : Bool) → IsRunning nothing job frame most old emits read over → (total : TotalState)
+    → StandForEmits job.compiled total emits → (e : Ending)
     → old.ending ≡ Some e → length old.round.records.items ≡ 0 → (input : List ℕ) → GoesOn read over input
     → RunsInput job most frame input (ended_so total (old.first - 1) e)
 ends_run job frame most old emits read over h total stand e known none input on records ending sizes cut are =

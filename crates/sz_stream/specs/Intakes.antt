@@ -8,7 +8,7 @@ use Rattle.sz_records.specs.Cutting.{full, IsCut}
 use Rattle.sz_records.specs.Ends.{RecordsData, no_records, later_of}
 use Rattle.sz_records.specs.Fed.{FramerData, HasReadBehind, EndSo}
 use Rattle.sz_records.specs.Shards.{bytes_in, IsFull, IsShard, MayGoOn}
-use Rattle.sz_rounds.specs.Cuts.{ranges_of}
+use Rattle.sz_workers.specs.Cuts.{ranges_of}
 use Rattle.sz_stream.specs.declared.done.Done.{Done}
 use Rattle.sz_stream.specs.declared.intake.Intake.{Intake}
 use Rattle.sz_stream.specs.Inputs.{GoesOn}
@@ -35,19 +35,25 @@ pub record CanGoOn (done : Done) : Type 0 where
   pub records : done.records ≤ 2 ^ 31
   pub bytes : done.bytes ≤ 2 ^ 40
 
--- Behind what of an input is done these bytes were read, perhaps to their end, and these records were given: the ending isn't known yet; or each
--- input that goes on with them there has these records there and this ending
+-- Behind what of an input is done these bytes were read, perhaps to their end, and these records were given: the
+-- ending isn't known yet; or each input that goes on with them there has these records there and this ending
 abbrev pub IsFed : Done → Frame → FramerData → Option Ending → List ℕ → Bool → List (List ℕ) → Type 0
 IsFed done frame framer None read over given =
     HasReadBehind done.bytes done.records frame full framer read given × (framer.ended ≡ None) × (over ≡ false)
 IsFed done frame framer (Some e) read over given =
-    ((input : List ℕ) → GoesOn read over input → IsCut frame full done.bytes done.records input given e) × (e ≡ Whole → over ≡ true)
+    ((input : List ℕ) → GoesOn read over input → IsCut frame full done.bytes done.records input given e)
+    × (e ≡ Whole → over ≡ true)
 
 -- nothing was read behind what of the input is done, and no record is at hand
 pub record IsEmpty (frame : Frame) (most : ℕ) (done : Done) (intake : Intake) : Type 0 where
   pub fed : IsFed done frame intake.framer intake.ending [] false []
   pub more : intake.ending ≡ None
-  pub round : intake.round ≡ record { records = no_records; shards = []; first_shard = done.shards; passed = done.passed }
+  pub round : intake.round ≡ record {
+    records = no_records;
+    shards = [];
+    first_shard = done.shards;
+    passed = done.passed;
+  }
   pub first : intake.first ≡ done.records + 1
   pub closed : intake.closed ≡ 0
   pub limit : intake.most ≡ most
@@ -62,18 +68,21 @@ pub record KeepsRound (old new : Intake) : Type 0 where
   pub limit : new.most ≡ old.most
 
 -- a piece was read, and records came after those at hand, which end where they do in each input that goes on so
-pub record HasTaken (done : Done) (frame : Frame) (framer : FramerData) (ending : Option Ending) (before after : RecordsData) (read : List ℕ) (over : Bool)
+pub record HasTaken (done : Done) (frame : Frame) (framer : FramerData) (ending : Option Ending)
+    (before after : RecordsData) (read : List ℕ) (over : Bool)
     (given : List (List ℕ)) : Type 0 where
   pub added : List (List ℕ)
   pub gained : after.items ≡ before.items ++ added
   pub fed : IsFed done frame framer ending read over (given ++ added)
-  pub ends : (rest : List ℕ) → GoesOn read over rest → EndSo done.bytes done.records frame full rest (length given) before after
+  pub ends : (rest : List ℕ) → GoesOn read over rest
+      → EndSo done.bytes done.records frame full rest (length given) before after
 
 -- the piece is taken in, whatever was read before it; an empty one is the end
 abbrev pub TakesIn : Intake → Intake → List ℕ → Type 0
 TakesIn old new piece = (done : Done) (frame : Frame) (read : List ℕ) (given : List (List ℕ))
     → HasReadBehind done.bytes done.records frame full old.framer read given → old.framer.ended ≡ None
-    → HasTaken done frame new.framer new.ending old.round.records new.round.records (read ++ piece) (length piece == 0) given
+    → HasTaken done frame new.framer new.ending old.round.records new.round.records (read ++ piece)
+    (length piece == 0) given
 
 -- a round has no more shards than so many
 abbrev pub most_shards : ℕ
@@ -96,10 +105,12 @@ pub record FitsRound (intake : Intake) : Type 0 where
   pub few : length intake.round.shards ≤ most_shards
   pub small : 1 < length intake.round.shards → ¬ AreTooMany intake.round.records.items intake.closed
 
--- the first n records at hand belong to the round's shards and to the next one, which has no end before the last of them
+-- the first n records at hand belong to the round's shards and to the next one, which has no end before the last of
+-- them
 pub record ReachesInto (intake : Intake) (n : ℕ) : Type 0 where
   pub within : (intake.closed ≤ n) × (n ≤ length intake.round.records.items)
-  pub next : (m : ℕ) → m < n - intake.closed → ¬ IsFull intake.most (take m (drop intake.closed intake.round.records.items))
+  pub next : (m : ℕ) → m < n - intake.closed
+      → ¬ IsFull intake.most (take m (drop intake.closed intake.round.records.items))
 
 -- the next shard, as far as it is at hand, would make the round too large
 pub record HasNoRoom (intake : Intake) : Type 0 where
@@ -114,7 +125,8 @@ HasFullRound intake = (most_shards ≤ length intake.round.shards) ⊎ HasNoRoom
 
 -- no more has to be read for the round: it is full, or the ending is known and all records are in closed shards
 abbrev pub IsFilled : Intake → Type 0
-IsFilled intake = HasFullRound intake ⊎ ((is_some intake.ending ≡ true) × (length intake.round.records.items ≤ intake.closed))
+IsFilled intake =
+    HasFullRound intake ⊎ ((is_some intake.ending ≡ true) × (length intake.round.records.items ≤ intake.closed))
 
 -- a piece is wanted: the ending isn't known, no further shard is at hand as a whole, and the round isn't full
 pub record WantsPiece (intake : Intake) : Type 0 where

@@ -9,9 +9,9 @@ ghost use Rattle.sz_attempt.specs.Shards.{IsJob};
 ghost use Rattle.sz_stream.specs.Inputs.{RunsInput, RunsFile};
 ghost use Rattle.sz_stream.specs.Intakes.{FitsRound, IsFilled};
 ghost use Rattle.sz_stream.specs.InputRuns.{CanRead, CanRun, Fills, ReadsPiece, ReadsNoMore, TakesAll, IsReady, RunsRound, StopsShards, ended_so};
-ghost use Rattle.sz_rounds.specs.Rounds.{IsRound, EndsRound, shards_of};
-ghost use Rattle.sz_rounds.specs.Outcomes.{outcome_from};
-ghost use Rattle.sz_rounds.specs.declared.round.RoundEnd.TheVariants as ends;
+ghost use Rattle.sz_workers.specs.Rounds.{IsRound, EndsRound, shards_of};
+ghost use Rattle.sz_workers.specs.Outcomes.{outcome_from};
+ghost use Rattle.sz_workers.specs.declared.round.RoundEnd.TheVariants as ends;
 
 use crate::done::Done;
 use crate::intake::Intake;
@@ -22,11 +22,10 @@ use std::thread::Threads;
 use sz_attempt::Job;
 use sz_io::{Failed, Files, Gate, OutsideError};
 use sz_records::Ending;
-use sz_rounds::RoundEnd;
 use sz_total::Total;
 use sz_value::NoMemory;
 use sz_words::RunSettings;
-use sz_workers::run_round;
+use sz_workers::{RoundEnd, run_round};
 
 /// How many bytes of a file are read at most by one call of `read`: the length of a buffer for `fill`.
 pub const PIECE_BYTES: usize = 65_536;

@@ -8,9 +8,9 @@ use std::alloc::Global;
 use sz_attempt::Shard;
 use sz_list::Items;
 use sz_records::{Ending, FrameLimits, Framer, Records, shard_end};
-use sz_rounds::Round;
 use sz_types::Frame;
 use sz_value::NoMemory;
+use sz_workers::Round;
 
 /// The most shards of a round.
 const MOST_SHARDS: usize = 4096;

@@ -41,7 +41,8 @@ length_zeros zero = refl
 length_zeros (suc n) = ap suc (length_zeros n)
 
 -- a new one
-pub kept_new : (table : Declaration) (numbers : List ℤ) → table.kind ≡ Sum → numbers ≡ replicate (width table.element) (pos 0) → IsKept table 0 numbers
+pub kept_new : (table : Declaration) (numbers : List ℤ) → table.kind ≡ Sum
+    → numbers ≡ replicate (width table.element) (pos 0) → IsKept table 0 numbers
 kept_new table numbers kind are = record {
   kind = kind;
   wide = ap length are ∙ length_zeros (width table.element);
@@ -50,8 +51,8 @@ kept_new table numbers kind are = record {
 }
 
 -- one emit more, and the emits of both sides
-pub kept_more : (table : Declaration) (count : ℕ) (old new ns : List ℤ) → IsKept table count old → count < 2 ^ 63 → length ns ≡ width table.element
-    → AreWithin (2 ^ 63) ns → new ≡ plus old ns → IsKept table (count + 1) new
+pub kept_more : (table : Declaration) (count : ℕ) (old new ns : List ℤ) → IsKept table count old → count < 2 ^ 63
+    → length ns ≡ width table.element → AreWithin (2 ^ 63) ns → new ≡ plus old ns → IsKept table (count + 1) new
 kept_more table count old new ns h room wide fits added = record {
   kind = h.kind;
   wide = ap length added ∙ length_kept old ns (omega (arith, wide, h.wide)) ∙ h.wide;
@@ -62,16 +63,20 @@ kept_more table count old new ns h room wide fits added = record {
       subst (λ most. AreWithin most new) same (subst (AreWithin (2 ^ 63 * count + 2 ^ 63)) (sym added) sum);
 }
 
-pub kept_both : (table : Declaration) (count : ℕ) (old : List ℤ) (other : Summed) (new : List ℤ) → IsKept table count old → IsKept other.table other.count other.numbers
-    → other.table ≡ table → count + other.count ≤ 2 ^ 63 → new ≡ plus old other.numbers → IsKept table (count + other.count) new
+pub kept_both : (table : Declaration) (count : ℕ) (old : List ℤ) (other : Summed) (new : List ℤ)
+    → IsKept table count old → IsKept other.table other.count other.numbers
+    → other.table ≡ table → count + other.count ≤ 2 ^ 63 → new ≡ plus old other.numbers
+    → IsKept table (count + other.count) new
 kept_both table count old other new h k same room added = record {
   kind = h.kind;
-  wide = ap length added ∙ length_kept old other.numbers (omega (arith, h.wide, k.wide, ap (λ t. width t.element) same)) ∙ h.wide;
+  wide = ap length added
+      ∙ length_kept old other.numbers (omega (arith, h.wide, k.wide, ap (λ t. width t.element) same)) ∙ h.wide;
   few = room;
   within =
       let sum = within_plus (2 ^ 63 * count) (2 ^ 63 * other.count) old other.numbers h.within k.within in
       let same : 2 ^ 63 * count + 2 ^ 63 * other.count ≡ 2 ^ 63 * (count + other.count) = omega arith in
-      subst (λ most. AreWithin most new) same (subst (AreWithin (2 ^ 63 * count + 2 ^ 63 * other.count)) (sym added) sum);
+      subst (λ most. AreWithin most new) same
+      (subst (AreWithin (2 ^ 63 * count + 2 ^ 63 * other.count)) (sym added) sum);
 }
 
 abbrev row : List ℤ → List RowDatum
@@ -90,15 +95,16 @@ sums_first (r ∷ rs) = sums_in r.shown
 row_tells : (ms ns : List ℤ) → row ms ≡ row ns → ms ≡ ns
 row_tells ms ns h = ap sums_first h
 
-rows_are : (table : Declaration) (emits : List Weighted) → table.kind ≡ Sum → rows_of table emits ≡ sum_rows (values_of emits)
+rows_are : (table : Declaration) (emits : List Weighted) → table.kind ≡ Sum
+    → rows_of table emits ≡ sum_rows (values_of emits)
 rows_are table emits kind = ap (λ k. rows_by k table.limit emits) kind
 
 shown_after : (s : Summed) (n : ℕ) → s.count ≡ suc n → rows_of_sum s ≡ row s.numbers
 shown_after s n is = ap (λ b. cond b (row s.numbers) []) (lt-ltb 0 s.count (omega (arith, is)))
 
 -- after some emits the numbers are their sums
-summed_up : (s : Summed) (w : Weighted) (ws : List Weighted) → s.table.kind ≡ Sum → StandsFor declaration_of count_of rows_of_sum s (w ∷ ws)
-    → s.numbers ≡ sums_of (values_of (w ∷ ws))
+summed_up : (s : Summed) (w : Weighted) (ws : List Weighted) → s.table.kind ≡ Sum
+    → StandsFor declaration_of count_of rows_of_sum s (w ∷ ws) → s.numbers ≡ sums_of (values_of (w ∷ ws))
 summed_up s w ws kind stands =
     row_tells s.numbers (sums_of (values_of (w ∷ ws)))
     (sym (shown_after s (length ws) stands.counted) ∙ stands.rows ∙ rows_are s.table (w ∷ ws) kind)
@@ -116,12 +122,14 @@ numbers_after : (old : Summed) (e : Weighted) (emits : List Weighted) → IsKept
     → length (components_of e.value) ≡ width old.table.element → StandsFor declaration_of count_of rows_of_sum old emits
     → plus old.numbers (components_of e.value) ≡ plus (sums_of (values_of emits)) (components_of e.value)
 numbers_after old e [] h wide stands =
-    from_nothing old.numbers (components_of e.value) (fresh old.count old.numbers stands.counted h.within) (wide ∙ sym h.wide)
-numbers_after old e (w ∷ ws) h wide stands = ap (λ ns. plus ns (components_of e.value)) (summed_up old w ws h.kind stands)
+    from_nothing old.numbers (components_of e.value) (fresh old.count old.numbers stands.counted h.within)
+    (wide ∙ sym h.wide)
+numbers_after old e (w ∷ ws) h wide stands =
+    ap (λ ns. plus ns (components_of e.value)) (summed_up old w ws h.kind stands)
 
-pub sum_gains : (old new : Summed) (e : Weighted) → IsKept old.table old.count old.numbers → new.table ≡ old.table → new.count ≡ old.count + 1
-    → length (components_of e.value) ≡ width old.table.element → new.numbers ≡ plus old.numbers (components_of e.value)
-    → Gains declaration_of count_of rows_of_sum old new e
+pub sum_gains : (old new : Summed) (e : Weighted) → IsKept old.table old.count old.numbers → new.table ≡ old.table
+    → new.count ≡ old.count + 1 → length (components_of e.value) ≡ width old.table.element
+    → new.numbers ≡ plus old.numbers (components_of e.value) → Gains declaration_of count_of rows_of_sum old new e
 sum_gains old new e h same one_more wide added = record {
   same_table = same;
   one_more = one_more;
@@ -129,7 +137,8 @@ sum_gains old new e h same one_more wide added = record {
     rows =
         shown_after new old.count (one_more ∙ omega arith) ∙ ap row (added ∙ numbers_after old e emits h wide stands
         ∙ sym (sums_of_one_more (values_of emits) e.value)) ∙ sym (row_of_more (values_of emits) e.value [])
-        ∙ ap sum_rows (sym (values_of_both emits (e ∷ []))) ∙ sym (rows_are new.table (emits ++ e ∷ []) (ap (λ t. t.kind) same ∙ h.kind));
+        ∙ ap sum_rows (sym (values_of_both emits (e ∷ [])))
+        ∙ sym (rows_are new.table (emits ++ e ∷ []) (ap (λ t. t.kind) same ∙ h.kind));
     counted = one_more ∙ ap (λ n. n + 1) stands.counted ∙ sym (length-append emits (e ∷ []));
   };
 }
@@ -140,34 +149,39 @@ after_nothing (x ∷ xs) = ap (λ l. x ∷ l) (after_nothing xs)
 
 -- the rows of the emits of both sides
 rows_of_both : (old other new : Summed) (front back : List Weighted) → IsKept old.table old.count old.numbers
-    → IsKept other.table other.count other.numbers → length other.numbers ≡ length old.numbers → new.count ≡ old.count + other.count
+    → IsKept other.table other.count other.numbers → length other.numbers ≡ length old.numbers
+    → new.count ≡ old.count + other.count
     → new.numbers ≡ plus old.numbers other.numbers → StandsFor declaration_of count_of rows_of_sum old front
     → StandsFor declaration_of count_of rows_of_sum other back → rows_of_sum new ≡ sum_rows (values_of (front ++ back))
 rows_of_both old other new [] [] h k wide counts added stands beside =
-    ap (λ c. rows_of_sum (record { table = new.table; count = c; numbers = new.numbers })) (counts ∙ (λ i. stands.counted i + beside.counted i))
+    ap (λ c. rows_of_sum (record { table = new.table; count = c; numbers = new.numbers }))
+    (counts ∙ (λ i. stands.counted i + beside.counted i))
 rows_of_both old other new [] (b ∷ bs) h k wide counts added stands beside =
     shown_after new (length bs) (counts ∙ (λ i. stands.counted i + beside.counted i) ∙ omega arith) ∙ ap row (added
-    ∙ from_nothing old.numbers other.numbers (fresh old.count old.numbers stands.counted h.within) wide ∙ summed_up other b bs k.kind beside)
+    ∙ from_nothing old.numbers other.numbers (fresh old.count old.numbers stands.counted h.within) wide
+    ∙ summed_up other b bs k.kind beside)
 rows_of_both old other new (f ∷ fs) [] h k wide counts added stands beside =
     shown_after new (length fs) (counts ∙ (λ i. stands.counted i + beside.counted i) ∙ omega arith) ∙ ap row (added
     ∙ plus_comm old.numbers other.numbers
-    ∙ from_nothing other.numbers old.numbers (fresh other.count other.numbers beside.counted k.within) (sym wide) ∙ summed_up old f fs h.kind stands)
-    ∙ ap (λ l. sum_rows (values_of l)) (sym (after_nothing (f ∷ fs)))
+    ∙ from_nothing other.numbers old.numbers (fresh other.count other.numbers beside.counted k.within) (sym wide)
+    ∙ summed_up old f fs h.kind stands) ∙ ap (λ l. sum_rows (values_of l)) (sym (after_nothing (f ∷ fs)))
 rows_of_both old other new (f ∷ fs) (b ∷ bs) h k wide counts added stands beside =
-    shown_after new (length fs + length (b ∷ bs)) (counts ∙ (λ i. stands.counted i + beside.counted i) ∙ omega arith) ∙ ap row (added
-    ∙ (λ i. plus (summed_up old f fs h.kind stands i) (summed_up other b bs k.kind beside i))
+    shown_after new (length fs + length (b ∷ bs)) (counts ∙ (λ i. stands.counted i + beside.counted i) ∙ omega arith)
+    ∙ ap row (added ∙ (λ i. plus (summed_up old f fs h.kind stands i) (summed_up other b bs k.kind beside i))
     ∙ sym (sums_of_both (values_of (f ∷ fs)) (values_of (b ∷ bs))))
     ∙ ap sum_rows (sym (values_of_both (f ∷ fs) (b ∷ bs)))
 
-pub sum_joins : (old other new : Summed) → IsKept old.table old.count old.numbers → IsKept other.table other.count other.numbers
-    → other.table ≡ old.table → new.table ≡ old.table → new.count ≡ old.count + other.count → new.numbers ≡ plus old.numbers other.numbers
+pub sum_joins : (old other new : Summed) → IsKept old.table old.count old.numbers
+    → IsKept other.table other.count other.numbers → other.table ≡ old.table → new.table ≡ old.table
+    → new.count ≡ old.count + other.count → new.numbers ≡ plus old.numbers other.numbers
     → Joins declaration_of count_of rows_of_sum old other new
 sum_joins old other new h k one_table same counts added = record {
   same_table = same;
   both_counts = counts;
   joined = λ front back stands beside. record {
     rows =
-        rows_of_both old other new front back h k (k.wide ∙ ap (λ t. width t.element) one_table ∙ sym h.wide) counts added stands beside
+        rows_of_both old other new front back h k
+        (k.wide ∙ ap (λ t. width t.element) one_table ∙ sym h.wide) counts added stands beside
         ∙ sym (rows_are new.table (front ++ back) (ap (λ t. t.kind) same ∙ h.kind));
     counted = counts ∙ (λ i. stands.counted i + beside.counted i) ∙ sym (length-append front back);
   };

@@ -2,7 +2,7 @@
 use Rattle.std.proofs.Common.{◌≡◌, ◌&&◌, Bool, true, false, List, [], ◌∷◌, map, length, refl, arith}
 use Rattle.sz_types.specs.Data.{Shape, FieldShape, FieldShapes, no_fields, with_field, field, fields_of}
 use Rattle.sz_value.specs.Data.{Datum, int, tuple, Data, no_data, datum, parts_of}
-use Rattle.sz_typing_rules.specs.Types.{has_type, parts_fit}
+use Rattle.sz_types.specs.Types.{has_type, parts_fit}
 use Rattle.sz_tabs.specs.Rows.{number_of, components_of}
 use Rattle.sz_sum.specs.Data.{width, field_count}
 
@@ -10,7 +10,8 @@ after : (a b : Bool) → a && b ≡ true → b ≡ true
 after true b h = h
 after false b h = absurd cc
 
-parts_wide : (ds : Data) (fs : FieldShapes) → parts_fit ds fs ≡ true → length (map number_of (parts_of ds)) ≡ field_count fs
+parts_wide : (ds : Data) (fs : FieldShapes) → parts_fit ds fs ≡ true
+    → length (map number_of (parts_of ds)) ≡ field_count fs
 parts_wide no_data no_fields h = refl
 parts_wide no_data (with_field f fs) h = absurd cc
 parts_wide (datum d ds) no_fields h = absurd cc

@@ -1,5 +1,5 @@
--- What the crates above may cite: sorted lists and their rows, sums by component, how far sums are from 0, and what rows of further
--- emits and of joined lists need.
+-- What the crates above may cite: sorted lists and their rows, sums by component, how far sums are from 0, and what
+-- rows of further emits and of joined lists need.
 pub use Rattle.sz_tabs.proofs.PermutationLemmas.{in_any_order}
 pub use Rattle.sz_tabs.proofs.SortingLemmas.{Ascends, ascends, is_sorted, sorted_ascends, one_order, stable_sort_is_sorted}
 pub use Rattle.sz_tabs.proofs.SortingLemmas.{sorted_is_permutation, sorted_in_any_order, sorted_mapped}

@@ -2,7 +2,8 @@
 use Rattle.std.proofs.Common.{ℕ, zero, suc, ◌<◌, List, [], ◌∷◌, length, get_or, set, swap, IsPermutation, arith}
 use Rattle.std.proofs.lemmas.List.Sorted.{IsPermutation-keeps}
 
--- A relation of lists that holds of each list and itself, under one more head, of two heads in either order, and in chains.
+-- A relation of lists that holds of each list and itself, under one more head, of two heads in either order, and in
+-- chains.
 module _ {X : Type 0} (Alike : List X → List X → Type 0)
     (itself : (xs : List X) → Alike xs xs)
     (under : (x : X) (xs ys : List X) → Alike xs ys → Alike (x ∷ xs) (x ∷ ys))
@@ -16,7 +17,8 @@ module _ {X : Type 0} (Alike : List X → List X → Type 0)
       let later = under y _ _ (to_place xs i x d (omega arith)) in
       chained _ _ _ (turned x y xs) (chained _ _ _ later (turned y (get_or xs i d) (set xs i x)))
 
-  exchanged : (xs : List X) (i j : ℕ) (d : X) → i < length xs → j < length xs → Alike xs (set (set xs i (get_or xs j d)) j (get_or xs i d))
+  exchanged : (xs : List X) (i j : ℕ) (d : X) → i < length xs → j < length xs
+      → Alike xs (set (set xs i (get_or xs j d)) j (get_or xs i d))
   exchanged [] i j d first second = absurd (omega arith)
   exchanged (x ∷ xs) zero zero d first second = itself (x ∷ xs)
   exchanged (x ∷ xs) zero (suc j) d first second = to_place xs j x d (omega arith)
@@ -29,4 +31,5 @@ module _ {X : Type 0} (Alike : List X → List X → Type 0)
 
   -- it holds of a list and any order of it
   pub in_any_order : (xs ys : List X) → IsPermutation xs ys → Alike xs ys
-  in_any_order xs = IsPermutation-keeps xs (Alike xs) (itself xs) (λ l i j first second so_far. chained xs l _ so_far (swapped l i j first second))
+  in_any_order xs = IsPermutation-keeps xs (Alike xs) (itself xs)
+      (λ l i j first second so_far. chained xs l _ so_far (swapped l i j first second))

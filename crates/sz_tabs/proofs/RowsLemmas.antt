@@ -21,11 +21,13 @@ use Rattle.sz_tabs.proofs.PermutationLemmas.{in_any_order}
 use Rattle.sz_tabs.proofs.SortingLemmas.{is_sorted, sorted_ascends, sorted_is_permutation, sorted_in_any_order, distinct_rises, distinct_has, distinct_has_no_other}
 
 pub least_total : IsTotalOrder least_first
-least_total = then_total (on_total (λ (w : Weighted). w.weight) (options_total int_cmp_total)) (on_total (λ (w : Weighted). w.value) compare_total)
+least_total = then_total (on_total (λ (w : Weighted). w.weight) (options_total int_cmp_total))
+    (on_total (λ (w : Weighted). w.value) compare_total)
 
 pub greatest_total : IsTotalOrder greatest_first
 greatest_total =
-    then_total (on_total (λ (w : Weighted). w.weight) (back_total (options_total int_cmp_total))) (on_total (λ (w : Weighted). w.value) compare_total)
+    then_total (on_total (λ (w : Weighted). w.weight) (back_total (options_total int_cmp_total)))
+    (on_total (λ (w : Weighted). w.value) compare_total)
 
 weights_tie : (v w : Option ℤ) → option_cmp int_cmp v w ≡ Equal → v ≡ w
 weights_tie None None tied = refl
@@ -41,10 +43,16 @@ least_ties v w tied =
 pub greatest_ties : (v w : Weighted) → greatest_first v w ≡ Equal → v ≡ w
 greatest_ties v w tied =
     let equal = both_equal (option_cmp int_cmp w.weight v.weight) (compare v.value w.value) tied in
-    λ i. record { value = compare_ties v.value w.value equal.1 i; weight = sym (weights_tie w.weight v.weight equal.0) i }
+    λ i. record {
+      value = compare_ties v.value w.value equal.1 i;
+      weight = sym (weights_tie w.weight v.weight equal.0) i;
+    }
 
 sorts : {X : Type 0} {cmp : X → X → Ordering} → IsTotalOrder cmp → (xs : List X) → Sorts cmp xs
-sorts {cmp = cmp} total xs = record { in_order = is_sorted total (sorted cmp xs) (sorted_ascends total xs); same_elements = sorted_is_permutation total xs }
+sorts {cmp = cmp} total xs = record {
+  in_order = is_sorted total (sorted cmp xs) (sorted_ascends total xs);
+  same_elements = sorted_is_permutation total xs;
+}
 
 pub values_sort : (values : List Datum) → Sorts compare values
 values_sort = sorts compare_total
@@ -89,7 +97,8 @@ module _ (table : ℕ) (indexes : List Datum) (emits : List EmitDatum) (emit : E
       brought_by_both table indexes emits (emit ∷ [])
       ∙ ap (λ b. brought_to table indexes emits ++ map brought_by (cond b (emit ∷ []) [])) went
 
-  pub brought_elsewhere : went_to table indexes emit ≡ false → brought_to table indexes (emits ++ emit ∷ []) ≡ brought_to table indexes emits
+  pub brought_elsewhere : went_to table indexes emit ≡ false
+      → brought_to table indexes (emits ++ emit ∷ []) ≡ brought_to table indexes emits
   brought_elsewhere went =
       brought_by_both table indexes emits (emit ∷ [])
       ∙ ap (λ b. brought_to table indexes emits ++ map brought_by (cond b (emit ∷ []) [])) went ∙ append-nil _
@@ -126,17 +135,20 @@ sum_rows_in_any_order (v ∷ vs) (w ∷ ws) moved =
 rows_by_in_any_order : (kind : TableKind) (limit : ℕ) (first second : List Weighted) → IsPermutation first second
     → rows_by kind limit first ≡ rows_by kind limit second
 rows_by_in_any_order Sum limit first second moved =
-    sum_rows_in_any_order (values_of first) (values_of second) (IsPermutation-map (λ (w : Weighted). w.value) first second moved)
+    sum_rows_in_any_order (values_of first) (values_of second)
+    (IsPermutation-map (λ (w : Weighted). w.value) first second moved)
 rows_by_in_any_order Maximum limit first second moved =
     ap (λ l. map weighted_row (take limit l)) (sorted_in_any_order greatest_total greatest_ties first second moved)
 rows_by_in_any_order Minimum limit first second moved =
     ap (λ l. map weighted_row (take limit l)) (sorted_in_any_order least_total least_ties first second moved)
 rows_by_in_any_order Set limit first second moved =
     ap (λ l. set_rows limit (Rattle.std.specs.List.dedup (Rattle.std.specs.Ordering.eq_by_cmp compare) l))
-    (sorted_in_any_order compare_total compare_ties (values_of first) (values_of second) (IsPermutation-map (λ (w : Weighted). w.value) first second moved))
+    (sorted_in_any_order compare_total compare_ties (values_of first) (values_of second)
+    (IsPermutation-map (λ (w : Weighted). w.value) first second moved))
 rows_by_in_any_order Collection limit first second moved =
     ap (map value_row)
-    (sorted_in_any_order compare_total compare_ties (values_of first) (values_of second) (IsPermutation-map (λ (w : Weighted). w.value) first second moved))
+    (sorted_in_any_order compare_total compare_ties (values_of first) (values_of second)
+    (IsPermutation-map (λ (w : Weighted). w.value) first second moved))
 
 pub rows_in_any_order : ForgetsOrder
 rows_in_any_order table first second moved = rows_by_in_any_order table.kind table.limit first second moved

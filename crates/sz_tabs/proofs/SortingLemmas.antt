@@ -56,10 +56,12 @@ module _ {X : Type 0} {cmp : X → X → Ordering} (total : IsTotalOrder cmp) wh
   all_weaker P Q f [] all = tt
   all_weaker P Q f (x ∷ xs) all = (f x all.0, all_weaker P Q f xs all.1)
 
-  pub all_inserted : (P : X → Type 0) (x : X) (ys : List X) → P x → AllByRecursion P ys → AllByRecursion P (inserted cmp x ys)
+  pub all_inserted : (P : X → Type 0) (x : X) (ys : List X) → P x → AllByRecursion P ys
+      → AllByRecursion P (inserted cmp x ys)
   all_inserted P x [] h all = (h, tt)
   all_inserted P x (y ∷ ys) h all =
-      cond_both (is_gt (cmp x y)) (y ∷ inserted cmp x ys) (x ∷ y ∷ ys) (AllByRecursion P) (λ above. (all.0, all_inserted P x ys h all.1)) (λ below. (h, all))
+      cond_both (is_gt (cmp x y)) (y ∷ inserted cmp x ys) (x ∷ y ∷ ys) (AllByRecursion P)
+      (λ above. (all.0, all_inserted P x ys h all.1)) (λ below. (h, all))
 
   inserted_ascends : (x : X) (ys : List X) → Ascends ys → Ascends (inserted cmp x ys)
   inserted_ascends x [] up = (tt, tt)
@@ -89,7 +91,8 @@ module _ {X : Type 0} {cmp : X → X → Ordering} (total : IsTotalOrder cmp) wh
   pub ascends : (xs : List X) → IsSorted cmp xs → Ascends xs
   ascends [] in_order = tt
   ascends (x ∷ xs) in_order =
-      let later : IsSorted cmp xs = λ k d low within. rw add-one (rw add-one at (in_order (suc k) d (omega arith) (omega arith))) in
+      let later : IsSorted cmp xs =
+      λ k d low within. rw add-one (rw add-one at (in_order (suc k) d (omega arith) (omega arith))) in
       let up = ascends xs later in
       (at_most_all x xs in_order up, up)
 
@@ -97,12 +100,14 @@ module _ {X : Type 0} {cmp : X → X → Ordering} (total : IsTotalOrder cmp) wh
   abbrev Apart : (X → Bool) → Type 0
   Apart t = (x y : X) → is_gt (cmp x y) ≡ true → t x ≡ true → t y ≡ true → ⊥
 
-  filter_of_inserted : (t : X → Bool) → Apart t → (x : X) (ys : List X) → filter t (inserted cmp x ys) ≡ filter t (x ∷ ys)
+  filter_of_inserted : (t : X → Bool) → Apart t → (x : X) (ys : List X)
+      → filter t (inserted cmp x ys) ≡ filter t (x ∷ ys)
   filter_of_inserted t apart x [] = refl
   filter_of_inserted t apart x (y ∷ ys) = by_test (is_gt (cmp x y)) refl (filter_of_inserted t apart x ys)
     where
       either_order : is_gt (cmp x y) ≡ true → (p q : Bool) → t x ≡ p → t y ≡ q → (kept : List X)
-          → cond q (y ∷ cond p (x ∷ kept) kept) (cond p (x ∷ kept) kept) ≡ cond p (x ∷ cond q (y ∷ kept) kept) (cond q (y ∷ kept) kept)
+          → cond q (y ∷ cond p (x ∷ kept) kept) (cond p (x ∷ kept) kept)
+          ≡ cond p (x ∷ cond q (y ∷ kept) kept) (cond q (y ∷ kept) kept)
       either_order above true true a b kept = absurd (apart x y above a b)
       either_order above true false a b kept = refl
       either_order above false true a b kept = refl
@@ -110,13 +115,15 @@ module _ {X : Type 0} {cmp : X → X → Ordering} (total : IsTotalOrder cmp) wh
 
       by_test : (above : Bool) → is_gt (cmp x y) ≡ above → filter t (inserted cmp x ys) ≡ filter t (x ∷ ys)
           → filter t (cond above (y ∷ inserted cmp x ys) (x ∷ y ∷ ys)) ≡ filter t (x ∷ y ∷ ys)
-      by_test true above later = ap (λ kept. cond (t y) (y ∷ kept) kept) later ∙ either_order above (t x) (t y) refl refl (filter t ys)
+      by_test true above later = ap (λ kept. cond (t y) (y ∷ kept) kept) later
+          ∙ either_order above (t x) (t y) refl refl (filter t ys)
       by_test false above later = refl
 
   filter_of_sorted : (t : X → Bool) → Apart t → (xs : List X) → filter t (sorted cmp xs) ≡ filter t xs
   filter_of_sorted t apart [] = refl
   filter_of_sorted t apart (x ∷ xs) =
-      filter_of_inserted t apart x (sorted cmp xs) ∙ ap (λ kept. cond (t x) (x ∷ kept) kept) (filter_of_sorted t apart xs)
+      filter_of_inserted t apart x (sorted cmp xs)
+      ∙ ap (λ kept. cond (t x) (x ∷ kept) kept) (filter_of_sorted t apart xs)
 
   equal : (found : Ordering) → is_eq found ≡ true → found ≡ Equal
   equal Less h = absurd (true≢false (sym h))
@@ -142,10 +149,13 @@ module _ {X : Type 0} {cmp : X → X → Ordering} (total : IsTotalOrder cmp) wh
   none_tie v (y ∷ ys) less = rw less.0 (none_tie v ys less.1)
 
   -- what is below the head of an ascending list ties with none of it
-  below_all : (v y : X) (ys : List X) → cmp v y ≡ Less → AllByRecursion (AtMost y) ys → filter (eq_by_cmp cmp v) (y ∷ ys) ≡ []
-  below_all v y ys less up = none_tie v (y ∷ ys) (less, all_weaker (AtMost y) (λ z. cmp v z ≡ Less) (λ z. less_than_after v y z less) ys up)
+  below_all : (v y : X) (ys : List X) → cmp v y ≡ Less → AllByRecursion (AtMost y) ys
+      → filter (eq_by_cmp cmp v) (y ∷ ys) ≡ []
+  below_all v y ys less up =
+      none_tie v (y ∷ ys) (less, all_weaker (AtMost y) (λ z. cmp v z ≡ Less) (λ z. less_than_after v y z less) ys up)
 
-  first_ties : (v y : X) (ys : List X) → cmp v y ≡ Equal → filter (eq_by_cmp cmp v) (y ∷ ys) ≡ y ∷ filter (eq_by_cmp cmp v) ys
+  first_ties : (v y : X) (ys : List X) → cmp v y ≡ Equal
+      → filter (eq_by_cmp cmp v) (y ∷ ys) ≡ y ∷ filter (eq_by_cmp cmp v) ys
   first_ties v y ys tie = rw tie
 
   abbrev TieAlike : List X → List X → Type 0
@@ -160,7 +170,8 @@ module _ {X : Type 0} {cmp : X → X → Ordering} (total : IsTotalOrder cmp) wh
       by_found Equal is =
           let kept = sym (first_ties y y ys (tied_itself total y)) ∙ alike y ∙ first_ties y z zs is in cc
       by_found Greater is =
-          let kept = sym (first_ties z z zs (tied_itself total z)) ∙ sym (alike z) ∙ below_all z y ys (turned_round y z Greater is) left.0 in cc
+          let kept = sym (first_ties z z zs (tied_itself total z)) ∙ sym (alike z)
+          ∙ below_all z y ys (turned_round y z Greater is) left.0 in cc
 
   tails_alike : (y : X) (ys zs : List X) → TieAlike (y ∷ ys) (y ∷ zs) → TieAlike ys zs
   tails_alike y ys zs alike v = by_test (eq_by_cmp cmp v y) (alike v)
@@ -193,7 +204,8 @@ module _ {X : Type 0} {cmp : X → X → Ordering} (total : IsTotalOrder cmp) wh
   pub stable_sort_is_sorted : (xs ys : List X) → IsSorted cmp ys → IsStable cmp xs ys → ys ≡ sorted cmp xs
   stable_sort_is_sorted xs ys in_order stable =
       one_order ys (sorted cmp xs) (ascends ys in_order) (sorted_ascends xs) (λ v.
-      sym (filter_agree _ (eq_by_cmp cmp v) (neither_less v) ys) ∙ stable v ∙ filter_agree _ (eq_by_cmp cmp v) (neither_less v) xs
+      sym (filter_agree _ (eq_by_cmp cmp v) (neither_less v) ys) ∙ stable v
+      ∙ filter_agree _ (eq_by_cmp cmp v) (neither_less v) xs
       ∙ sym (filter_of_sorted (eq_by_cmp cmp v) (ties_are_apart v) xs))
 
   inserted_is_permutation : (x : X) (ys : List X) → IsPermutation (x ∷ ys) (inserted cmp x ys)
@@ -206,14 +218,17 @@ module _ {X : Type 0} {cmp : X → X → Ordering} (total : IsTotalOrder cmp) wh
 
   pub sorted_is_permutation : (xs : List X) → IsPermutation xs (sorted cmp xs)
   sorted_is_permutation [] = IsPermutation-refl []
-  sorted_is_permutation (x ∷ xs) = IsPermutation-trans _ _ _ (IsPermutation-cons x _ _ (sorted_is_permutation xs)) (inserted_is_permutation x (sorted cmp xs))
+  sorted_is_permutation (x ∷ xs) = IsPermutation-trans _ _ _ (IsPermutation-cons x _ _ (sorted_is_permutation xs))
+      (inserted_is_permutation x (sorted cmp xs))
 
   -- an order in which only an element itself ties with it
   module _ (same : (x y : X) → cmp x y ≡ Equal → x ≡ y) where
-    front : (x y : X) (zs : List X) → cond (is_gt (cmp x y)) (y ∷ x ∷ zs) (x ∷ y ∷ zs) ≡ cond (is_gt (cmp y x)) (x ∷ y ∷ zs) (y ∷ x ∷ zs)
+    front : (x y : X) (zs : List X)
+        → cond (is_gt (cmp x y)) (y ∷ x ∷ zs) (x ∷ y ∷ zs) ≡ cond (is_gt (cmp y x)) (x ∷ y ∷ zs) (y ∷ x ∷ zs)
     front x y zs = by_found (cmp x y) refl
       where
-        by_found : (found : Ordering) → cmp x y ≡ found → cond (is_gt found) (y ∷ x ∷ zs) (x ∷ y ∷ zs) ≡ cond (is_gt (cmp y x)) (x ∷ y ∷ zs) (y ∷ x ∷ zs)
+        by_found : (found : Ordering) → cmp x y ≡ found
+            → cond (is_gt found) (y ∷ x ∷ zs) (x ∷ y ∷ zs) ≡ cond (is_gt (cmp y x)) (x ∷ y ∷ zs) (y ∷ x ∷ zs)
         by_found Less is = rw (turned_round x y Less is)
         by_found Equal is = rw (turned_round x y Equal is) (λ i. same x y is i ∷ sym (same x y is) i ∷ zs)
         by_found Greater is = rw (turned_round x y Greater is)
@@ -234,7 +249,8 @@ module _ {X : Type 0} {cmp : X → X → Ordering} (total : IsTotalOrder cmp) wh
     inserted_in_turn x y [] = front x y []
     inserted_in_turn x y (z ∷ zs) = by_tests (is_gt (cmp x z)) (is_gt (cmp y z)) refl refl (inserted_in_turn x y zs)
       where
-        by_tests : (p q : Bool) → is_gt (cmp x z) ≡ p → is_gt (cmp y z) ≡ q → inserted cmp x (inserted cmp y zs) ≡ inserted cmp y (inserted cmp x zs)
+        by_tests : (p q : Bool) → is_gt (cmp x z) ≡ p → is_gt (cmp y z) ≡ q
+            → inserted cmp x (inserted cmp y zs) ≡ inserted cmp y (inserted cmp x zs)
             → inserted cmp x (inserted cmp y (z ∷ zs)) ≡ inserted cmp y (inserted cmp x (z ∷ zs))
         by_tests true true p q later = simp (p, q) (ap (λ l. z ∷ l) later)
         by_tests true false p q later = simp (p, q, above_both x y z p q)
@@ -249,7 +265,8 @@ module _ {X : Type 0} {cmp : X → X → Ordering} (total : IsTotalOrder cmp) wh
 
     -- the distinct elements rise
     pub distinct_rises : (xs : List X) → IsStrictlySortedBy cmp (distinct cmp xs)
-    distinct_rises xs = IsStrictlySortedBy-dedup total (λ x y. refl) (sorted cmp xs) (is_sorted (sorted cmp xs) (sorted_ascends xs))
+    distinct_rises xs =
+        IsStrictlySortedBy-dedup total (λ x y. refl) (sorted cmp xs) (is_sorted (sorted cmp xs) (sorted_ascends xs))
 
     -- each element is among them
     pub distinct_has : (xs : List X) (x : X) → Contains xs x → Contains (distinct cmp xs) x
@@ -264,16 +281,20 @@ module _ {X : Type 0} {cmp : X → X → Ordering} (total : IsTotalOrder cmp) wh
         (Contains-from_dedup (eq_by_cmp cmp) (sorted cmp xs) x there)
 
 -- an insertion through a function
-inserted_mapped : {X Y : Type 0} (cmp : Y → Y → Ordering) (f : X → Y) (x : X) (ys : List X) → inserted cmp (f x) (map f ys) ≡ map f (inserted (on f cmp) x ys)
+inserted_mapped : {X Y : Type 0} (cmp : Y → Y → Ordering) (f : X → Y) (x : X) (ys : List X)
+    → inserted cmp (f x) (map f ys) ≡ map f (inserted (on f cmp) x ys)
 inserted_mapped cmp f x [] = refl
 inserted_mapped cmp f x (y ∷ ys) = by_test (is_gt (cmp (f x) (f y))) (inserted_mapped cmp f x ys)
   where
     by_test : (b : Bool) → inserted cmp (f x) (map f ys) ≡ map f (inserted (on f cmp) x ys)
-        → cond b (f y ∷ inserted cmp (f x) (map f ys)) (f x ∷ f y ∷ map f ys) ≡ map f (cond b (y ∷ inserted (on f cmp) x ys) (x ∷ y ∷ ys))
+        → cond b (f y ∷ inserted cmp (f x) (map f ys)) (f x ∷ f y ∷ map f ys)
+        ≡ map f (cond b (y ∷ inserted (on f cmp) x ys) (x ∷ y ∷ ys))
     by_test true later = ap (λ l. f y ∷ l) later
     by_test false later = refl
 
 -- what is sorted by what a function gives, is sorted by the function
-pub sorted_mapped : {X Y : Type 0} (cmp : Y → Y → Ordering) (f : X → Y) (xs : List X) → sorted cmp (map f xs) ≡ map f (sorted (on f cmp) xs)
+pub sorted_mapped : {X Y : Type 0} (cmp : Y → Y → Ordering) (f : X → Y) (xs : List X)
+    → sorted cmp (map f xs) ≡ map f (sorted (on f cmp) xs)
 sorted_mapped cmp f [] = refl
-sorted_mapped cmp f (x ∷ xs) = ap (inserted cmp (f x)) (sorted_mapped cmp f xs) ∙ inserted_mapped cmp f x (sorted (on f cmp) xs)
+sorted_mapped cmp f (x ∷ xs) = ap (inserted cmp (f x)) (sorted_mapped cmp f xs)
+    ∙ inserted_mapped cmp f x (sorted (on f cmp) xs)

@@ -29,37 +29,45 @@ nothing : rows_by Sum 0 [] ≡ []
 nothing = refl
 
 -- twice the greatest number of 64 bits
-wide : rows_by Sum 0 (plain (int (pos 9223372036854775807) ∷ int (pos 9223372036854775807) ∷ [])) ≡ sum_row (pos 18446744073709551614 ∷ []) ∷ []
+wide : rows_by Sum 0 (plain (int (pos 9223372036854775807) ∷ int (pos 9223372036854775807) ∷ []))
+    ≡ sum_row (pos 18446744073709551614 ∷ []) ∷ []
 wide = refl
 
 -- a sum of tuples goes by component
 by_component : rows_by Sum 0 (plain
-    (tuple (datum (int (pos 1)) (datum (int (pos 5)) no_data)) ∷ tuple (datum (int (pos 2)) (datum (int (negsuc 6)) no_data)) ∷ []))
+    (tuple (datum (int (pos 1)) (datum (int (pos 5)) no_data))
+    ∷ tuple (datum (int (pos 2)) (datum (int (negsuc 6)) no_data)) ∷ []))
     ≡ sum_row (pos 3 ∷ negsuc 1 ∷ []) ∷ []
 by_component = refl
 
 -- the two best of "b", "a" and "a" of one weight: repeats count, and the lesser value comes first
-best : rows_by Maximum 2 (ranked (text (codes "b")) (pos 5) ∷ ranked (text (codes "a")) (pos 5) ∷ ranked (text (codes "a")) (pos 5) ∷ [])
+best : rows_by Maximum 2
+    (ranked (text (codes "b")) (pos 5) ∷ ranked (text (codes "a")) (pos 5) ∷ ranked (text (codes "a")) (pos 5) ∷ [])
     ≡ weighted_row (ranked (text (codes "a")) (pos 5)) ∷ weighted_row (ranked (text (codes "a")) (pos 5)) ∷ []
 best = refl
 
 -- by weight, the greatest first, and the least first
-slow : rows_by Maximum 3 (ranked (text (codes "fr")) (pos 305) ∷ ranked (text (codes "de")) (pos 819) ∷ ranked (text (codes "us")) (pos 472) ∷ [])
-    ≡ map weighted_row (ranked (text (codes "de")) (pos 819) ∷ ranked (text (codes "us")) (pos 472) ∷ ranked (text (codes "fr")) (pos 305) ∷ [])
+slow : rows_by Maximum 3 (ranked (text (codes "fr")) (pos 305) ∷ ranked (text (codes "de")) (pos 819)
+    ∷ ranked (text (codes "us")) (pos 472) ∷ []) ≡ map weighted_row (ranked (text (codes "de")) (pos 819)
+    ∷ ranked (text (codes "us")) (pos 472) ∷ ranked (text (codes "fr")) (pos 305) ∷ [])
 slow = refl
 
-fast : rows_by Minimum 2 (ranked (text (codes "fr")) (pos 305) ∷ ranked (text (codes "de")) (pos 819) ∷ ranked (text (codes "us")) (negsuc 0) ∷ [])
+fast : rows_by Minimum 2 (ranked (text (codes "fr")) (pos 305) ∷ ranked (text (codes "de")) (pos 819)
+    ∷ ranked (text (codes "us")) (negsuc 0) ∷ [])
     ≡ map weighted_row (ranked (text (codes "us")) (negsuc 0) ∷ ranked (text (codes "fr")) (pos 305) ∷ [])
 fast = refl
 
 -- "a", "b" and "a" in a set that can hold two, and with "c" as well
-two : rows_by Set 2 (plain (text (codes "a") ∷ text (codes "b") ∷ text (codes "a") ∷ [])) ≡ map value_row (text (codes "a") ∷ text (codes "b") ∷ [])
+two : rows_by Set 2 (plain (text (codes "a") ∷ text (codes "b") ∷ text (codes "a") ∷ []))
+    ≡ map value_row (text (codes "a") ∷ text (codes "b") ∷ [])
 two = refl
 
-full : rows_by Set 2 (plain (text (codes "a") ∷ text (codes "b") ∷ text (codes "a") ∷ text (codes "c") ∷ [])) ≡ overflow_row ∷ []
+full : rows_by Set 2 (plain (text (codes "a") ∷ text (codes "b") ∷ text (codes "a") ∷ text (codes "c") ∷ []))
+    ≡ overflow_row ∷ []
 full = refl
 
-hours : rows_by Set 24 (plain (int (pos 17) ∷ int (pos 3) ∷ int (pos 17) ∷ [])) ≡ map value_row (int (pos 3) ∷ int (pos 17) ∷ [])
+hours : rows_by Set 24 (plain (int (pos 17) ∷ int (pos 3) ∷ int (pos 17) ∷ []))
+    ≡ map value_row (int (pos 3) ∷ int (pos 17) ∷ [])
 hours = refl
 
 -- all values, in order
@@ -67,13 +75,20 @@ all : rows_by Collection 0 (plain (text (codes "c") ∷ text (codes "a") ∷ tex
     ≡ map value_row (text (codes "a") ∷ text (codes "a") ∷ text (codes "c") ∷ [])
 all = refl
 
-negative : rows_by Collection 0 (plain (int (negsuc 0) ∷ int (negsuc 2) ∷ [])) ≡ map value_row (int (negsuc 2) ∷ int (negsuc 0) ∷ [])
+negative : rows_by Collection 0 (plain (int (negsuc 0) ∷ int (negsuc 2) ∷ []))
+    ≡ map value_row (int (negsuc 2) ∷ int (negsuc 0) ∷ [])
 negative = refl
 
 -- a hit from "us" in hour 1, one from nowhere in hour 0, and one more from "us": what goes to "us" and 1
 abbrev hit : List ℕ → ℕ → EmitDatum
-hit country hour = record { table = 0; indexes = text country ∷ int (pos hour) ∷ []; value = int (pos 1); weight = None }
+hit country hour = record {
+  table = 0;
+  indexes = text country ∷ int (pos hour) ∷ [];
+  value = int (pos 1);
+  weight = None;
+}
 
-hits : rows_by Sum 0 (brought_to 0 (text (codes "us") ∷ int (pos 1) ∷ []) (hit (codes "us") 1 ∷ hit (codes "") 0 ∷ hit (codes "us") 1 ∷ []))
+hits : rows_by Sum 0 (brought_to 0 (text (codes "us") ∷ int (pos 1) ∷ [])
+    (hit (codes "us") 1 ∷ hit (codes "") 0 ∷ hit (codes "us") 1 ∷ []))
     ≡ sum_row (pos 2 ∷ []) ∷ []
 hits = refl

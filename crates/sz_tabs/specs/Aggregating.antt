@@ -11,7 +11,8 @@ weighted value weight = record { value = value; weight = weight }
 
 -- A type of aggregators, by what is known of each: its table, its number of emits, and the rows that it shows.
 module _ {S : Type 0} (declaration : S → Declaration) (count : S → ℕ) (shown : S → List RowDatum) where
-  -- The aggregator stands for the list of emits: its rows are those of the list, and its number of emits is the list's length.
+  -- The aggregator stands for the list of emits: its rows are those of the list, and its number of emits is the
+  -- list's length.
   pub record StandsFor (s : S) (emits : List Weighted) : Type 0 where
     pub rows : shown s ≡ rows_of (declaration s) emits
     pub counted : count s ≡ length emits
@@ -31,4 +32,5 @@ module _ {S : Type 0} (declaration : S → Declaration) (count : S → ℕ) (sho
   pub record Joins (old other new : S) : Type 0 where
     pub same_table : declaration new ≡ declaration old
     pub both_counts : count new ≡ count old + count other
-    pub joined : (front later : List Weighted) → StandsFor old front → StandsFor other later → StandsFor new (front ++ later)
+    pub joined : (front later : List Weighted) → StandsFor old front → StandsFor other later
+        → StandsFor new (front ++ later)

@@ -51,7 +51,8 @@ shown_code = code_by Choice (coded⊎ datum_code (coded_option (coded_list coded
 -- how a row is stored
 abbrev pub row_code : Coded RowDatum
 row_code =
-    code_by (Shown × Option ℤ) (coded× shown_code weight_code) (λ r. (r.shown, r.weight)) (λ p. record { shown = p.0; weight = p.1 }) (λ _. refl)
+    code_by (Shown × Option ℤ) (coded× shown_code weight_code) (λ r. (r.shown, r.weight))
+    (λ p. record { shown = p.0; weight = p.1 }) (λ _. refl)
 
 -- any declaration, where a list has none
 abbrev no_declaration : Declaration
@@ -66,7 +67,8 @@ abbrev pub declaration_code : Coded Declaration
 declaration_code = code_by (List Declaration) declarations_code (λ d. d ∷ []) first_of (λ _. refl)
 
 abbrev weighted_code : Coded Weighted
-weighted_code = code_by (Datum × Option ℤ) (coded× datum_code weight_code) (λ w. (w.value, w.weight)) (λ p. record { value = p.0; weight = p.1 }) (λ _. refl)
+weighted_code = code_by (Datum × Option ℤ) (coded× datum_code weight_code) (λ w. (w.value, w.weight))
+    (λ p. record { value = p.0; weight = p.1 }) (λ _. refl)
 
 -- how a plain aggregator is stored
 abbrev pub listing_code : Coded Listing

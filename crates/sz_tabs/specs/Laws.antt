@@ -22,7 +22,8 @@ pub record IsSetOf (values : List Datum) (distinct_values : List Datum) : Type 0
 
 -- what was brought has the same rows in any order
 abbrev pub ForgetsOrder : Type 0
-ForgetsOrder = (table : Declaration) (first second : List Weighted) → IsPermutation first second → rows_of table first ≡ rows_of table second
+ForgetsOrder = (table : Declaration) (first second : List Weighted) → IsPermutation first second
+    → rows_of table first ≡ rows_of table second
 
 -- lists with the same rows still have the same rows after the same further emits
 abbrev pub DecidedByRows : Type 0

@@ -31,8 +31,10 @@ use Rattle.sz_total.specs.declared.aggregate.Aggregate.TheVariants.{Sum, Extreme
 -- what is near is no further than what is far
 longer_within : (few many : ℕ) → few ≤ many → (ns : List ℤ) → AreWithin few ns → AreWithin many ns
 longer_within few many more [] h = tt
-longer_within few many more (n ∷ ns) h =
-    (record { low = omega (arith, ints, more, h.0.low); high = omega (arith, ints, more, h.0.high) }, longer_within few many more ns h.1)
+longer_within few many more (n ∷ ns) h = (
+  record { low = omega (arith, ints, more, h.0.low); high = omega (arith, ints, more, h.0.high) },
+  longer_within few many more ns h.1,
+)
 
 module _ (most : ℕ) where
   abbrev RowWithin : RowDatum → Type 0
@@ -41,7 +43,8 @@ module _ (most : ℕ) where
   -- the rows of a sum
   sum_within : (b : Bool) (numbers : List ℤ) → AreWithin most numbers
       → RowsAreWithin most (cond b (record { shown = sums numbers; weight = None } ∷ []) [])
-  sum_within true numbers h = All-cons RowWithin (record { shown = sums numbers; weight = None }) [] h (All-nil RowWithin)
+  sum_within true numbers h =
+      All-cons RowWithin (record { shown = sums numbers; weight = None }) [] h (All-nil RowWithin)
   sum_within false numbers h = All-nil RowWithin
 
   values_within : (values : List Datum) → RowsAreWithin most (map value_row values)
@@ -63,7 +66,8 @@ module _ (most : ℕ) where
   rows_without_sums kinds.Maximum limit brought other = weighted_within (take limit (sorted greatest_first brought))
   rows_without_sums kinds.Minimum limit brought other = weighted_within (take limit (sorted least_first brought))
   rows_without_sums kinds.Set limit brought other =
-      set_within (nat_lt limit (length (distinct compare (rows.values_of brought)))) (distinct compare (rows.values_of brought))
+      set_within (nat_lt limit (length (distinct compare (rows.values_of brought))))
+      (distinct compare (rows.values_of brought))
   rows_without_sums kinds.Collection limit brought other = values_within (sorted compare (rows.values_of brought))
 
 abbrev is_sums : Family → Bool
@@ -71,22 +75,27 @@ is_sums families.sums = true
 is_sums _ = false
 
 -- what an aggregator of the table shows
-shown_within : (table : Declaration) (count : ℕ) (a : Aggregate) → IsOfTable table count a → IsBounded a → RowsAreWithin (2 ^ 63 * count) (shown_of a)
+shown_within : (table : Declaration) (count : ℕ) (a : Aggregate) → IsOfTable table count a → IsBounded a
+    → RowsAreWithin (2 ^ 63 * count) (shown_of a)
 shown_within table count (Sum s) is bounded =
     sum_within (2 ^ 63 * count) (nat_lt 0 s.count) s.numbers
     (longer_within (2 ^ 63 * s.count) (2 ^ 63 * count) (omega (arith, is.few)) s.numbers bounded)
 shown_within table count (Extreme e) is bounded =
     rows_without_sums (2 ^ 63 * count) e.table.kind e.table.limit e.kept
-    (λ same. let no = ap is_sums (is.family ∙ ap (λ (t : Declaration). family_for t.kind) (sym is.declared) ∙ same) in absurd cc)
+    (λ same. let no = ap is_sums (is.family ∙ ap (λ (t : Declaration). family_for t.kind) (sym is.declared) ∙ same) in
+    absurd cc)
 shown_within table count (Members m) is bounded =
     rows_without_sums (2 ^ 63 * count) m.table.kind m.table.limit (emits_of m.kept)
-    (λ same. let no = ap is_sums (is.family ∙ ap (λ (t : Declaration). family_for t.kind) (sym is.declared) ∙ same) in absurd cc)
+    (λ same. let no = ap is_sums (is.family ∙ ap (λ (t : Declaration). family_for t.kind) (sym is.declared) ∙ same) in
+    absurd cc)
 
 -- what is shown under each index list
-module _ (table : Declaration) (count : ℕ) (entries : Entries) (are : AreOfTable table count entries) (bounded : AreBounded entries) where
+module _ (table : Declaration) (count : ℕ) (entries : Entries) (are : AreOfTable table count entries)
+    (bounded : AreBounded entries) where
   found_within : (indexes : List Datum) → RowsAreWithin (2 ^ 63 * count) (rows_found entries indexes)
   found_within indexes =
-      by_found (lookup (same_indexes indexes) entries) (IfSome-lookup_from_All (IsOfTable table count) (same_indexes indexes) entries are)
+      by_found (lookup (same_indexes indexes) entries)
+      (IfSome-lookup_from_All (IsOfTable table count) (same_indexes indexes) entries are)
       (IfSome-lookup_from_All IsBounded (same_indexes indexes) entries bounded)
     where
       by_found : (found : Option Aggregate) → IfSome found (IsOfTable table count) → IfSome found IsBounded
@@ -97,7 +106,8 @@ module _ (table : Declaration) (count : ℕ) (entries : Entries) (are : AreOfTab
   each_within : (lists : List (List Datum)) → SumsAreWithin (2 ^ 63 * count) (map (indexed entries) lists)
   each_within [] = All-nil (λ (i : Indexed). RowsAreWithin (2 ^ 63 * count) i.rows)
   each_within (l ∷ ls) =
-      All-cons (λ (i : Indexed). RowsAreWithin (2 ^ 63 * count) i.rows) (indexed entries l) (map (indexed entries) ls) (found_within l) (each_within ls)
+      All-cons (λ (i : Indexed). RowsAreWithin (2 ^ 63 * count) i.rows) (indexed entries l) (map (indexed entries) ls)
+      (found_within l) (each_within ls)
 
   pub table_within : SumsAreWithin (2 ^ 63 * count) (rows_in_order entries)
   table_within = each_within (distinct compare_indexes (keys_of entries))
@@ -111,12 +121,14 @@ shown_longer few many more overflow h = tt
 sums_longer : (few many : ℕ) → few ≤ many → (all : List Indexed) → SumsAreWithin few all → SumsAreWithin many all
 sums_longer few many more all h =
     All-weaker (λ (i : Indexed). RowsAreWithin few i.rows) (λ (i : Indexed). RowsAreWithin many i.rows)
-    (λ i near. All-weaker (λ (row : RowDatum). IsShownWithin few row.shown) (λ (row : RowDatum). IsShownWithin many row.shown)
+    (λ i near. All-weaker (λ (row : RowDatum). IsShownWithin few row.shown)
+    (λ (row : RowDatum). IsShownWithin many row.shown)
     (λ row near. shown_longer few many more row.shown near) i.rows near)
     all h
 
 -- a table of all tables
-module _ (tables : List Declaration) (count : ℕ) (states : List TableState) (are : AreTables tables count states) (total : TotalState)
+module _ (tables : List Declaration) (count : ℕ) (states : List TableState) (are : AreTables tables count states)
+    (total : TotalState)
     (is : state_of tables count states ≡ total) (at : ℕ) where
   pub is_there : at < length total.tables → at < length states
   is_there low =
@@ -133,4 +145,5 @@ module _ (tables : List Declaration) (count : ℕ) (states : List TableState) (a
       let same : slice_index_or (map table_shown states) at [] ≡ table_shown s =
       get_or-map table_shown states at s [] low ∙ ap table_shown (sym (there s)) in
       subst (λ (t : TotalState). SumsAreWithin (2 ^ 63 * t.count) (shown t at)) is
-      (subst (SumsAreWithin (2 ^ 63 * count)) (sym same) (sums_longer (2 ^ 63 * s.count) (2 ^ 63 * count) (omega (arith, less)) (table_shown s) near))
+      (subst (SumsAreWithin (2 ^ 63 * count)) (sym same)
+      (sums_longer (2 ^ 63 * s.count) (2 ^ 63 * count) (omega (arith, less)) (table_shown s) near))

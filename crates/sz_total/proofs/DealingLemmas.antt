@@ -37,36 +37,44 @@ found_in_share : (entries : Entries) (indexes : List Datum)
 found_in_share [] indexes = refl
 found_in_share (e ∷ es) indexes = by_test (lies_in (part_of 16 indexes) e) refl (found_in_share es indexes)
   where
-    other : lies_in (part_of 16 indexes) e ≡ false → (b : Bool) → same_indexes indexes e.0 ≡ b → same_indexes indexes e.0 ≡ false
+    other : lies_in (part_of 16 indexes) e ≡ false → (b : Bool) → same_indexes indexes e.0 ≡ b
+        → same_indexes indexes e.0 ≡ false
     other elsewhere true same =
-        absurd (true≢false (sym (eq-eqb (part_of 16 e.0) (part_of 16 indexes) (ap (part_of 16) (sym (same_is indexes e.0 same)))) ∙ elsewhere))
+        absurd (true≢false (sym (eq-eqb (part_of 16 e.0) (part_of 16 indexes)
+        (ap (part_of 16) (sym (same_is indexes e.0 same)))) ∙ elsewhere))
     other elsewhere false same = same
 
     by_test : (b : Bool) → lies_in (part_of 16 indexes) e ≡ b
         → lookup (same_indexes indexes) (share_of (part_of 16 indexes) es) ≡ lookup (same_indexes indexes) es
-        → lookup (same_indexes indexes) (cond b (e ∷ share_of (part_of 16 indexes) es) (share_of (part_of 16 indexes) es))
+        → lookup (same_indexes indexes)
+        (cond b (e ∷ share_of (part_of 16 indexes) es) (share_of (part_of 16 indexes) es))
         ≡ lookup (same_indexes indexes) (e ∷ es)
     by_test true here later = ap (cond (same_indexes indexes e.0) (Some e.1)) later
     by_test false elsewhere later =
-        later ∙ ap (λ b. cond b (Some e.1) (lookup (same_indexes indexes) es)) (sym (other elsewhere (same_indexes indexes e.0) refl))
+        later ∙ ap (λ b. cond b (Some e.1) (lookup (same_indexes indexes) es))
+        (sym (other elsewhere (same_indexes indexes e.0) refl))
 
 -- and has nothing else
 placed_share : (at : ℕ) (entries : Entries) → IsPlaced 16 at (share_of at entries)
 placed_share at [] = tt
 placed_share at (e ∷ es) = by_test (lies_in at e) refl (placed_share at es)
   where
-    by_test : (b : Bool) → lies_in at e ≡ b → IsPlaced 16 at (share_of at es) → IsPlaced 16 at (cond b (e ∷ share_of at es) (share_of at es))
+    by_test : (b : Bool) → lies_in at e ≡ b → IsPlaced 16 at (share_of at es)
+        → IsPlaced 16 at (cond b (e ∷ share_of at es) (share_of at es))
     by_test true here later = (eqb-true (part_of 16 e.0) at here, later)
     by_test false elsewhere later = later
 
-of_table_share : (table : Declaration) (count at : ℕ) (entries : Entries) → AreOfTable table count entries → AreOfTable table count (share_of at entries)
+of_table_share : (table : Declaration) (count at : ℕ) (entries : Entries) → AreOfTable table count entries
+    → AreOfTable table count (share_of at entries)
 of_table_share table count at [] are = are
 of_table_share table count at (e ∷ es) are =
     by_test (lies_in at e) (of_table_share table count at es (All-tail (IsOfTable table count) e.1 (values_of es) are))
   where
-    by_test : (b : Bool) → AreOfTable table count (share_of at es) → AreOfTable table count (cond b (e ∷ share_of at es) (share_of at es))
+    by_test : (b : Bool) → AreOfTable table count (share_of at es)
+        → AreOfTable table count (cond b (e ∷ share_of at es) (share_of at es))
     by_test true later =
-        All-cons (IsOfTable table count) e.1 (values_of (share_of at es)) (All-head (IsOfTable table count) e.1 (values_of es) are) later
+        All-cons (IsOfTable table count) e.1 (values_of (share_of at es))
+        (All-head (IsOfTable table count) e.1 (values_of es) are) later
     by_test false later = later
 
 -- all entries were dealt
@@ -95,17 +103,21 @@ module _ (entries : Entries) (parts : List PartState) (dealt : HaveShares entrie
   parts_of_dealt table count are at = by_place (below at 16)
     where
       by_place : (at < 16) ⊎ (16 ≤ at) → AreOfTable table count (part_at parts at).entries
-      by_place (inl less) = subst (AreOfTable table count) (sym (dealt.each at less).entries) (of_table_share table count at entries are)
+      by_place (inl less) = subst (AreOfTable table count) (sym (dealt.each at less).entries)
+          (of_table_share table count at entries are)
       by_place (inr past) =
-          subst (λ (p : PartState). AreOfTable table count p.entries) (sym (nothing_else at past)) (All-nil (IsOfTable table count))
+          subst (λ (p : PartState). AreOfTable table count p.entries) (sym (nothing_else at past))
+          (All-nil (IsOfTable table count))
 
   found_dealt : ((indexes : List Datum) → part_of 16 indexes < 16) → (indexes : List Datum)
       → lookup (same_indexes indexes) (entries_of parts) ≡ lookup (same_indexes indexes) entries
   found_dealt within indexes =
       found_in_part 16 parts placed_by_number indexes
-      ∙ ap (lookup (same_indexes indexes)) (dealt.each (part_of 16 indexes) (within indexes)).entries ∙ found_in_share entries indexes
+      ∙ ap (lookup (same_indexes indexes)) (dealt.each (part_of 16 indexes) (within indexes)).entries
+      ∙ found_in_share entries indexes
 
-  pub shown_dealt : ((indexes : List Datum) → part_of 16 indexes < 16) → rows_in_order (entries_of parts) ≡ rows_in_order entries
+  pub shown_dealt : ((indexes : List Datum) → part_of 16 indexes < 16)
+      → rows_in_order (entries_of parts) ≡ rows_in_order entries
   shown_dealt within =
       shown_alike (entries_of parts) entries
       (λ indexes.
@@ -119,13 +131,15 @@ middle : (P : List Datum → Type 0) (front : Entries) (key : List Datum) (a : A
 middle P [] key a rest all = all.0
 middle P (e ∷ es) key a rest all = middle P es key a rest all.1
 
-not_in_front : (front : Entries) (key : List Datum) (a : Aggregate) (rest : Entries) → IsDistinct same_indexes (keys_of (front ++ (key, a) ∷ rest))
+not_in_front : (front : Entries) (key : List Datum) (a : Aggregate) (rest : Entries)
+    → IsDistinct same_indexes (keys_of (front ++ (key, a) ∷ rest))
     → lookup (same_indexes key) front ≡ None
 not_in_front [] key a rest apart = refl
 not_in_front (e ∷ es) key a rest apart =
     ap (λ b. cond b (Some e.1) (lookup (same_indexes key) es))
     (same_laws.symm key e.0
-    ∙ middle (λ k. same_indexes e.0 k ≡ false) es key a rest (IsDistinct-head same_indexes e.0 (keys_of (es ++ (key, a) ∷ rest)) apart))
+    ∙ middle (λ k. same_indexes e.0 k ≡ false) es key a rest
+    (IsDistinct-head same_indexes e.0 (keys_of (es ++ (key, a) ∷ rest)) apart))
     ∙ not_in_front es key a rest (IsDistinct-tail same_indexes e.0 (keys_of (es ++ (key, a) ∷ rest)) apart)
 
 -- shares of one entry more
@@ -135,12 +149,13 @@ share_here key a entries =
     ap (λ b. cond b ((key, a) ∷ share_of (part_of 16 key) entries) (share_of (part_of 16 key) entries))
     (eq-eqb (part_of 16 key) (part_of 16 key) refl)
 
-pub share_elsewhere : (at : ℕ) (key : List Datum) (a : Aggregate) (entries : Entries) → nat_eq (part_of 16 key) at ≡ false
-    → share_of at ((key, a) ∷ entries) ≡ share_of at entries
+pub share_elsewhere : (at : ℕ) (key : List Datum) (a : Aggregate) (entries : Entries)
+    → nat_eq (part_of 16 key) at ≡ false → share_of at ((key, a) ∷ entries) ≡ share_of at entries
 share_elsewhere at key a entries other = ap (λ b. cond b ((key, a) ∷ share_of at entries) (share_of at entries)) other
 
 -- the next entry is dealt
-module _ (first rest : Entries) (key : List Datum) (a : Aggregate) (parts : List PartState) (within : part_of 16 key < 16)
+module _ (first rest : Entries) (key : List Datum) (a : Aggregate) (parts : List PartState)
+    (within : part_of 16 key < 16)
     (shares : HaveShares first ((key, a) ∷ rest) parts) where
   abbrev place : ℕ
   place = part_of 16 key
@@ -153,7 +168,8 @@ module _ (first rest : Entries) (key : List Datum) (a : Aggregate) (parts : List
     many = shares.as_many;
     own = part_at parts place;
     there = slice_get-get_or parts place empty_part (omega (arith, within, shares.as_many));
-    absent = ap (lookup (same_indexes key)) own.entries ∙ found_in_share first key ∙ not_in_front first key a rest apart;
+    absent = ap (lookup (same_indexes key)) own.entries ∙ found_in_share first key
+        ∙ not_in_front first key a rest apart;
     room = omega (arith, own.room, ap length own.entries, ap length (share_here key a rest));
   }
 
@@ -168,11 +184,13 @@ module _ (first rest : Entries) (key : List Datum) (a : Aggregate) (parts : List
     own_is = get_or_from_slice_get parts place puts.own empty_part puts.there
 
     share_more : share_of place (first ++ (key, a) ∷ []) ≡ share_of place first ++ (key, a) ∷ []
-    share_more = filter-append (lies_in place) first ((key, a) ∷ []) ∙ ap (λ l. share_of place first ++ l) (share_here key a [])
+    share_more = filter-append (lies_in place) first ((key, a) ∷ [])
+        ∙ ap (λ l. share_of place first ++ l) (share_here key a [])
 
     put_here : HasShare place (first ++ (key, a) ∷ []) rest after
     put_here = record {
-      entries = ap (λ l. l ++ (key, a) ∷ []) (ap (λ (p : PartState). p.entries) (sym own_is) ∙ own.entries) ∙ sym share_more;
+      entries = ap (λ l. l ++ (key, a) ∷ []) (ap (λ (p : PartState). p.entries) (sym own_is) ∙ own.entries)
+          ∙ sym share_more;
       room =
           omega (
             arith,
@@ -189,7 +207,8 @@ module _ (first rest : Entries) (key : List Datum) (a : Aggregate) (parts : List
         → HasShare at (first ++ (key, a) ∷ []) rest (part_at parts at)
     put_elsewhere at other had =
         let same : share_of at (first ++ (key, a) ∷ []) ≡ share_of at first =
-        filter-append (lies_in at) first ((key, a) ∷ []) ∙ ap (λ l. share_of at first ++ l) (share_elsewhere at key a [] other)
+        filter-append (lies_in at) first ((key, a) ∷ [])
+        ∙ ap (λ l. share_of at first ++ l) (share_elsewhere at key a [] other)
         ∙ append-nil (share_of at first) in
         record {
           entries = had.entries ∙ sym same;
@@ -207,11 +226,13 @@ module _ (first rest : Entries) (key : List Datum) (a : Aggregate) (parts : List
         turned at other true same = absurd (true≢false (sym (eq-eqb place at (sym (eqb-true at place same))) ∙ other))
         turned at other false same = same
 
-        by_test : (at : ℕ) → at < 16 → (b : Bool) → nat_eq place at ≡ b → HasShare at (first ++ (key, a) ∷ []) rest (part_at new at)
+        by_test : (at : ℕ) → at < 16 → (b : Bool) → nat_eq place at ≡ b
+            → HasShare at (first ++ (key, a) ∷ []) rest (part_at new at)
         by_test at less true same =
             let is = eqb-true place at same in
             subst (λ k. HasShare k (first ++ (key, a) ∷ []) rest (part_at new k)) is
-            (subst (HasShare place (first ++ (key, a) ∷ []) rest) (sym (written parts new place after inside puts.now)) put_here)
+            (subst (HasShare place (first ++ (key, a) ∷ []) rest)
+            (sym (written parts new place after inside puts.now)) put_here)
         by_test at less false other =
             subst (HasShare at (first ++ (key, a) ∷ []) rest)
             (sym (unwritten parts new place after inside puts.now at (turned at other (nat_eq at place) refl)))

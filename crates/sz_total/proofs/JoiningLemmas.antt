@@ -30,14 +30,21 @@ use Rattle.sz_total.proofs.ListLemmas.{same_laws, same_is, distinct_of_more, ent
 use Rattle.sz_total.proofs.EntryLemmas.{rows_stand, lists_stand, of_table_there, found_replaced, found_in_front, found_last}
 
 -- what is not under any of these index lists isn't found
-pub absent : (indexes : List Datum) (entries : Entries) → AllByRecursion (λ l. same_indexes indexes l ≡ false) (keys_of entries)
+pub absent : (indexes : List Datum) (entries : Entries)
+    → AllByRecursion (λ l. same_indexes indexes l ≡ false) (keys_of entries)
     → lookup (same_indexes indexes) entries ≡ None
 absent indexes [] apart = refl
-absent indexes (h ∷ hs) apart = ap (λ b. cond b (Some h.1) (lookup (same_indexes indexes) hs)) apart.0 ∙ absent indexes hs apart.1
+absent indexes (h ∷ hs) apart = ap (λ b. cond b (Some h.1) (lookup (same_indexes indexes) hs)) apart.0
+    ∙ absent indexes hs apart.1
 
 -- room alone changes no row
 pub looks_refl : (entries : Entries) → LooksTheSame entries entries
-looks_refl entries = record { keys = refl; rows = λ indexes. refl; still = λ table count are. are; families = λ family are. are }
+looks_refl entries = record {
+  keys = refl;
+  rows = λ indexes. refl;
+  still = λ table count are. are;
+  families = λ family are. are;
+}
 
 pub looks_trans : (first mid now : Entries) → LooksTheSame first mid → LooksTheSame mid now → LooksTheSame first now
 looks_trans first mid now before after = record {
@@ -47,7 +54,8 @@ looks_trans first mid now before after = record {
   families = λ family are. after.families family (before.families family are);
 }
 
-of_table_changed : (table : Declaration) (count : ℕ) (old new : Aggregate) → ChangesRoomAlone old new → IsOfTable table count old → IsOfTable table count new
+of_table_changed : (table : Declaration) (count : ℕ) (old new : Aggregate) → ChangesRoomAlone old new
+    → IsOfTable table count old → IsOfTable table count new
 of_table_changed table count old new changes is = record {
   declared = changes.declared ∙ is.declared;
   family = changes.family ∙ is.family;
@@ -60,7 +68,8 @@ of_table_changed table count old new changes is = record {
   short = is.short;
 }
 
-module _ (indexes : List Datum) (entries : Entries) (old new : Aggregate) (there : lookup (same_indexes indexes) entries ≡ Some old)
+module _ (indexes : List Datum) (entries : Entries) (old new : Aggregate)
+    (there : lookup (same_indexes indexes) entries ≡ Some old)
     (changes : ChangesRoomAlone old new) where
   looks_changed : LooksTheSame entries (set_value (same_indexes indexes) entries new)
   looks_changed = record {
@@ -79,7 +88,8 @@ module _ (indexes : List Datum) (entries : Entries) (old new : Aggregate) (there
   }
     where
       by_test : (others : List Datum) (b : Bool) → same_indexes indexes others ≡ b
-          → option_map_or shown_of (cond b (Some new) (lookup (same_indexes others) entries)) [] ≡ rows_found entries others
+          → option_map_or shown_of (cond b (Some new) (lookup (same_indexes others) entries)) []
+          ≡ rows_found entries others
       by_test others true same =
           changes.rows ∙ ap (λ found. option_map_or shown_of found []) (sym there)
           ∙ ap (rows_found entries) (same_is indexes others same)
@@ -90,17 +100,20 @@ module _ (indexes : List Datum) (old new : Entries) (gains : GainsRoom indexes o
   gained_looks = by_found (lookup (same_indexes indexes) old) refl gains.none gains.some
     where
       by_found : (found : Option Aggregate) → lookup (same_indexes indexes) old ≡ found → IfNone found (new ≡ old)
-          → IfSome found (λ own. (now : Aggregate) × ChangesRoomAlone own now × (new ≡ set_value (same_indexes indexes) old now))
+          → IfSome found
+          (λ own. (now : Aggregate) × ChangesRoomAlone own now × (new ≡ set_value (same_indexes indexes) old now))
           → LooksTheSame old new
       by_found None is none some = subst (LooksTheSame old) (sym none) (looks_refl old)
       by_found (Some own) is none some =
           subst (LooksTheSame old) (sym some.2) (looks_changed indexes old own some.0 is some.1)
 
-  gained_elsewhere : (others : List Datum) → same_indexes indexes others ≡ false → lookup (same_indexes others) new ≡ lookup (same_indexes others) old
+  gained_elsewhere : (others : List Datum) → same_indexes indexes others ≡ false
+      → lookup (same_indexes others) new ≡ lookup (same_indexes others) old
   gained_elsewhere others other = by_found (lookup (same_indexes indexes) old) refl gains.none gains.some
     where
       by_found : (found : Option Aggregate) → lookup (same_indexes indexes) old ≡ found → IfNone found (new ≡ old)
-          → IfSome found (λ own. (now : Aggregate) × ChangesRoomAlone own now × (new ≡ set_value (same_indexes indexes) old now))
+          → IfSome found
+          (λ own. (now : Aggregate) × ChangesRoomAlone own now × (new ≡ set_value (same_indexes indexes) old now))
           → lookup (same_indexes others) new ≡ lookup (same_indexes others) old
       by_found None is none some = ap (lookup (same_indexes others)) none
       by_found (Some own) is none some =
@@ -108,30 +121,36 @@ module _ (indexes : List Datum) (old new : Entries) (gains : GainsRoom indexes o
           ∙ ap (λ b. cond b (Some some.0) (lookup (same_indexes others) old)) other
 
 -- what changed under the index list of an aggregator, and under one where there is none
-pub gains_some : (indexes : List Datum) (entries new : Entries) (own now : Aggregate) → lookup (same_indexes indexes) entries ≡ Some own
+pub gains_some : (indexes : List Datum) (entries new : Entries) (own now : Aggregate)
+    → lookup (same_indexes indexes) entries ≡ Some own
     → ChangesRoomAlone own now → new ≡ set_value (same_indexes indexes) entries now → GainsRoom indexes entries new
 gains_some indexes entries new own now there changes written = record {
   none = subst (λ o. IfNone o (new ≡ entries)) (sym there) tt;
   some =
-      subst (λ o. IfSome o (λ own. (now : Aggregate) × ChangesRoomAlone own now × (new ≡ set_value (same_indexes indexes) entries now))) (sym there)
+      subst (λ o. IfSome o (λ own. (now : Aggregate) × ChangesRoomAlone own now
+      × (new ≡ set_value (same_indexes indexes) entries now))) (sym there)
       (now, changes, written);
 }
 
-pub gains_none : (indexes : List Datum) (entries new : Entries) → lookup (same_indexes indexes) entries ≡ None → new ≡ entries → GainsRoom indexes entries new
+pub gains_none : (indexes : List Datum) (entries new : Entries) → lookup (same_indexes indexes) entries ≡ None
+    → new ≡ entries → GainsRoom indexes entries new
 gains_none indexes entries new none same = record {
   none = subst (λ o. IfNone o (new ≡ entries)) (sym none) same;
   some =
-      subst (λ o. IfSome o (λ own. (now : Aggregate) × ChangesRoomAlone own now × (new ≡ set_value (same_indexes indexes) entries now))) (sym none)
+      subst (λ o. IfSome o (λ own. (now : Aggregate) × ChangesRoomAlone own now
+      × (new ≡ set_value (same_indexes indexes) entries now))) (sym none)
       tt;
 }
 
 -- an index list that is there keeps its place where its aggregator is written
-pub put_there : (indexes : List Datum) (entries : Entries) (own now : Aggregate) → lookup (same_indexes indexes) entries ≡ Some own
+pub put_there : (indexes : List Datum) (entries : Entries) (own now : Aggregate)
+    → lookup (same_indexes indexes) entries ≡ Some own
     → insert_entry same_indexes entries indexes now ≡ set_value (same_indexes indexes) entries now
 put_there indexes [] own now there = absurd (cc)
 put_there indexes (e ∷ es) own now there = by_test (same_indexes indexes e.0) refl there (put_there indexes es own now)
   where
-    by_test : (b : Bool) → same_indexes indexes e.0 ≡ b → cond b (Some e.1) (lookup (same_indexes indexes) es) ≡ Some own
+    by_test : (b : Bool) → same_indexes indexes e.0 ≡ b
+        → cond b (Some e.1) (lookup (same_indexes indexes) es) ≡ Some own
         → (lookup (same_indexes indexes) es ≡ Some own
         → insert_entry same_indexes es indexes now ≡ set_value (same_indexes indexes) es now)
         → insert_entry same_indexes (e ∷ es) indexes now ≡ set_value (same_indexes indexes) (e ∷ es) now
@@ -144,21 +163,25 @@ put_there indexes (e ∷ es) own now there = by_test (same_indexes indexes e.0) 
         ∙ sym (ap (λ b. cond b ((e.0, now) ∷ es) (e ∷ set_value (same_indexes indexes) es now)) same)
 
 -- the same of an aggregator that takes another, and of one that is put where there is none
-pub takes_some : (indexes : List Datum) (other : Aggregate) (entries new : Entries) (own now : Aggregate) → lookup (same_indexes indexes) entries ≡ Some own
+pub takes_some : (indexes : List Datum) (other : Aggregate) (entries new : Entries) (own now : Aggregate)
+    → lookup (same_indexes indexes) entries ≡ Some own
     → IsJoined own other now → new ≡ set_value (same_indexes indexes) entries now → TakesOne indexes other entries new
 takes_some indexes other entries new own now there joined written = record {
   none = subst (λ o. IfNone o (new ≡ entries ++ (indexes, other) ∷ [])) (sym there) tt;
   some =
-      subst (λ o. IfSome o (λ own. (now : Aggregate) × IsJoined own other now × (new ≡ set_value (same_indexes indexes) entries now))) (sym there)
+      subst (λ o. IfSome o (λ own. (now : Aggregate) × IsJoined own other now
+      × (new ≡ set_value (same_indexes indexes) entries now))) (sym there)
       (now, joined, written);
 }
 
-pub takes_last : (indexes : List Datum) (other : Aggregate) (entries new : Entries) → lookup (same_indexes indexes) entries ≡ None
+pub takes_last : (indexes : List Datum) (other : Aggregate) (entries new : Entries)
+    → lookup (same_indexes indexes) entries ≡ None
     → new ≡ entries ++ (indexes, other) ∷ [] → TakesOne indexes other entries new
 takes_last indexes other entries new none last = record {
   none = subst (λ o. IfNone o (new ≡ entries ++ (indexes, other) ∷ [])) (sym none) last;
   some =
-      subst (λ o. IfSome o (λ own. (now : Aggregate) × IsJoined own other now × (new ≡ set_value (same_indexes indexes) entries now))) (sym none)
+      subst (λ o. IfSome o (λ own. (now : Aggregate) × IsJoined own other now
+      × (new ≡ set_value (same_indexes indexes) entries now))) (sym none)
       tt;
 }
 
@@ -168,13 +191,15 @@ IsRoomMade [] old new = new ≡ old
 IsRoomMade (o ∷ os) old new = (mid : Entries) × GainsRoom o.0 old mid × HasRoomUnder mid o × IsRoomMade os mid new
 
 untouched : (os old new : Entries) → IsRoomMade os old new → (indexes : List Datum)
-    → AllByRecursion (λ l. same_indexes indexes l ≡ false) (keys_of os) → lookup (same_indexes indexes) new ≡ lookup (same_indexes indexes) old
+    → AllByRecursion (λ l. same_indexes indexes l ≡ false) (keys_of os)
+    → lookup (same_indexes indexes) new ≡ lookup (same_indexes indexes) old
 untouched [] old new made indexes apart = ap (lookup (same_indexes indexes)) made
 untouched (o ∷ os) old new made indexes apart =
     untouched os made.0 new made.3 indexes apart.1
     ∙ gained_elsewhere o.0 old made.0 made.1 indexes (same_laws.symm o.0 indexes ∙ apart.0)
 
-pub room_made : (os : Entries) → IsDistinct same_indexes (keys_of os) → (old new : Entries) → IsRoomMade os old new → HaveRoomFor new os
+pub room_made : (os : Entries) → IsDistinct same_indexes (keys_of os) → (old new : Entries) → IsRoomMade os old new
+    → HaveRoomFor new os
 room_made [] apart old new made = tt
 room_made (o ∷ os) apart old new made = (
   subst (λ found. IfSome found (λ own. HasRoomFor own o.1))
@@ -198,7 +223,8 @@ sums_room own (o ∷ os) mine yours = (
   sums_room own os mine (All-tail (λ (a : Aggregate). family_of a ≡ sums) o.1 (values_of os) yours),
 )
   where
-    by_found : (found : Option Aggregate) → IfSome found (λ a. family_of a ≡ sums) → IfSome found (λ a. HasRoomFor a o.1)
+    by_found : (found : Option Aggregate) → IfSome found (λ a. family_of a ≡ sums)
+        → IfSome found (λ a. HasRoomFor a o.1)
     by_found None is = tt
     by_found (Some a) is = sum_room a o.1 is (All-head (λ (a : Aggregate). family_of a ≡ sums) o.1 (values_of os) yours)
 
@@ -206,12 +232,14 @@ sums_room own (o ∷ os) mine yours = (
 pub room_for_sums : (own others : Entries) → AreAlike own others → BeginsWithSum others → HaveRoomFor own others
 room_for_sums own [] alike first = tt
 room_for_sums own (o ∷ os) alike first =
-    let all = sym (All-head (λ (a : Aggregate). family_of a ≡ alike.family) o.1 (values_of os) alike.others_too) ∙ first in
-    sums_room own (o ∷ os) (subst (λ f. AreOf f own) all alike.mine) (subst (λ f. AreOf f (o ∷ os)) all alike.others_too)
+    let all =
+    sym (All-head (λ (a : Aggregate). family_of a ≡ alike.family) o.1 (values_of os) alike.others_too) ∙ first in
+    sums_room own (o ∷ os) (subst (λ f. AreOf f own) all alike.mine)
+    (subst (λ f. AreOf f (o ∷ os)) all alike.others_too)
 
 -- where there is room, aggregators of one table may take each other
-pub are_ready : (table : Declaration) (mine yours count : ℕ) → mine + yours ≤ count → (own others : Entries) → AreOfTable table mine own
-    → AreOfTable table yours others → HaveRoomFor own others → AreReady count own others
+pub are_ready : (table : Declaration) (mine yours count : ℕ) → mine + yours ≤ count → (own others : Entries)
+    → AreOfTable table mine own → AreOfTable table yours others → HaveRoomFor own others → AreReady count own others
 are_ready table mine yours count few own [] are beside room = tt
 are_ready table mine yours count few own (o ∷ os) are beside room = (
   by_found (lookup (same_indexes o.0) own) refl room.0,
@@ -227,36 +255,45 @@ are_ready table mine yours count few own (o ∷ os) are beside room = (
         record { declared = other.declared ∙ sym one.declared; few = omega (arith, one.few, other.few, few); room = r }
 
 -- what taking one aggregator of the other side does to those of a table
-record IsTakenAt (table : Declaration) (count : ℕ) (indexes : List Datum) (other : Aggregate) (old new : Entries) : Type 0 where
-  lists : (rest : List (List Datum)) → distinct compare_indexes (keys_of new ++ rest) ≡ distinct compare_indexes (keys_of old ++ indexes ∷ rest)
-  here : (front later : List Weighted) → rows_found old indexes ≡ rows_of table front → shown_of other ≡ rows_of table later
-      → rows_found new indexes ≡ rows_of table (front ++ later)
-  elsewhere : (others : List Datum) → same_indexes indexes others ≡ false → lookup (same_indexes others) new ≡ lookup (same_indexes others) old
+record IsTakenAt (table : Declaration) (count : ℕ) (indexes : List Datum) (other : Aggregate)
+    (old new : Entries) : Type 0 where
+  lists : (rest : List (List Datum))
+      → distinct compare_indexes (keys_of new ++ rest) ≡ distinct compare_indexes (keys_of old ++ indexes ∷ rest)
+  here : (front later : List Weighted) → rows_found old indexes ≡ rows_of table front
+      → shown_of other ≡ rows_of table later → rows_found new indexes ≡ rows_of table (front ++ later)
+  elsewhere : (others : List Datum) → same_indexes indexes others ≡ false
+      → lookup (same_indexes others) new ≡ lookup (same_indexes others) old
   still : AreOfTable table count new
 
 -- it stands last where there was none
 module _ (table : Declaration) (count : ℕ) (indexes : List Datum) (other : Aggregate) (entries : Entries)
-    (none : lookup (same_indexes indexes) entries ≡ None) (are : AreOfTable table count entries) (is : IsOfTable table count other) where
+    (none : lookup (same_indexes indexes) entries ≡ None) (are : AreOfTable table count entries)
+    (is : IsOfTable table count other) where
   taken_last : IsTakenAt table count indexes other entries (entries ++ (indexes, other) ∷ [])
   taken_last = record {
     lists = λ rest.
-        ap (λ l. distinct compare_indexes (l ++ rest)) (map-append (λ (p : List Datum × Aggregate). p.0) entries ((indexes, other) ∷ []))
+        ap (λ l. distinct compare_indexes (l ++ rest))
+        (map-append (λ (p : List Datum × Aggregate). p.0) entries ((indexes, other) ∷ []))
         ∙ ap (distinct compare_indexes) (append_assoc (keys_of entries) (indexes ∷ []) rest);
     here = λ front later before beside.
-        ap (λ found. option_map_or shown_of found []) (found_last (same_indexes indexes) entries indexes other (same_laws.refl indexes) none)
+        ap (λ found. option_map_or shown_of found [])
+        (found_last (same_indexes indexes) entries indexes other (same_laws.refl indexes) none)
         ∙ beside
         ∙ sym
         (rows_decide table front [] later
         (sym before ∙ ap (λ found. option_map_or shown_of found []) none ∙ sym (no_rows table)));
-    elsewhere = λ others apart. found_in_front (same_indexes others) entries indexes other (same_laws.symm others indexes ∙ apart);
+    elsewhere = λ others apart.
+        found_in_front (same_indexes others) entries indexes other (same_laws.symm others indexes ∙ apart);
     still =
-        subst (All (IsOfTable table count)) (sym (map-append (λ (p : List Datum × Aggregate). p.1) entries ((indexes, other) ∷ [])))
+        subst (All (IsOfTable table count))
+        (sym (map-append (λ (p : List Datum × Aggregate). p.1) entries ((indexes, other) ∷ [])))
         (All-push (IsOfTable table count) (values_of entries) other are is);
   }
 
 -- it is joined with the one that was there
-module _ (table : Declaration) (count : ℕ) (indexes : List Datum) (other : Aggregate) (entries : Entries) (own now : Aggregate)
-    (there : lookup (same_indexes indexes) entries ≡ Some own) (are : AreOfTable table count entries) (is : IsOfTable table count other)
+module _ (table : Declaration) (count : ℕ) (indexes : List Datum) (other : Aggregate) (entries : Entries)
+    (own now : Aggregate) (there : lookup (same_indexes indexes) entries ≡ Some own)
+    (are : AreOfTable table count entries) (is : IsOfTable table count other)
     (may : MayTake count own other) (joined : IsJoined own other now) where
   mine : IsOfTable table count own
   mine = of_table_there table count indexes entries own are there
@@ -271,13 +308,14 @@ module _ (table : Declaration) (count : ℕ) (indexes : List Datum) (other : Agg
     short = All-append (λ (w : Weighted). HasShortLengths w.value) mine.emits is.emits mine.short is.short;
   }
 
-  rows_joined : (front later : List Weighted) → rows_found entries indexes ≡ rows_of table front → shown_of other ≡ rows_of table later
-      → shown_of now ≡ rows_of table (front ++ later)
+  rows_joined : (front later : List Weighted) → rows_found entries indexes ≡ rows_of table front
+      → shown_of other ≡ rows_of table later → shown_of now ≡ rows_of table (front ++ later)
   unfolding of_table_joined
   rows_joined front later before beside =
       of_table_joined.stands.rows ∙ ap (λ d. rows_of d (mine.emits ++ is.emits)) of_table_joined.declared
       ∙ rows_join table mine.emits front is.emits later
-      (ap (λ d. rows_of d mine.emits) (sym mine.declared) ∙ sym mine.stands.rows ∙ ap (λ found. option_map_or shown_of found []) (sym there) ∙ before)
+      (ap (λ d. rows_of d mine.emits) (sym mine.declared) ∙ sym mine.stands.rows
+      ∙ ap (λ found. option_map_or shown_of found []) (sym there) ∙ before)
       (ap (λ d. rows_of d is.emits) (sym is.declared) ∙ sym is.stands.rows ∙ beside)
 
   taken_into : IsTakenAt table count indexes other entries (set_value (same_indexes indexes) entries now)
@@ -286,7 +324,8 @@ module _ (table : Declaration) (count : ℕ) (indexes : List Datum) (other : Agg
         ap (λ l. distinct compare_indexes (l ++ rest)) (keys-set_value (same_indexes indexes) entries now)
         ∙ distinct_of_either indexes_total indexes_tie (keys_of entries) rest
         ∙ ap (all_entered compare_indexes rest)
-        (sym (entered_there (keys_of entries) indexes (sym (is_some-lookup (same_indexes indexes) entries) ∙ ap is_some there))
+        (sym (entered_there (keys_of entries) indexes
+        (sym (is_some-lookup (same_indexes indexes) entries) ∙ ap is_some there))
         ∙ sym (distinct_of_more (keys_of entries) indexes))
         ∙ sym (distinct_of_either indexes_total indexes_tie (keys_of entries ++ indexes ∷ []) rest)
         ∙ ap (distinct compare_indexes) (append_assoc (keys_of entries) (indexes ∷ []) rest);
@@ -296,43 +335,54 @@ module _ (table : Declaration) (count : ℕ) (indexes : List Datum) (other : Agg
         ∙ ap (λ b. cond b (Some now) (lookup (same_indexes indexes) entries)) (same_laws.refl indexes))
         ∙ rows_joined front later before beside;
     elsewhere = λ others apart.
-        found_replaced indexes others entries own now there ∙ ap (λ b. cond b (Some now) (lookup (same_indexes others) entries)) apart;
+        found_replaced indexes others entries own now there
+        ∙ ap (λ b. cond b (Some now) (lookup (same_indexes others) entries)) apart;
     still = All-values-set_value (same_indexes indexes) (IsOfTable table count) entries now are of_table_joined;
   }
 
-taken_at : (table : Declaration) (count : ℕ) (indexes : List Datum) (other : Aggregate) (old new : Entries) → TakesOne indexes other old new
-    → AreOfTable table count old → IsOfTable table count other → MayTakeUnder count old (indexes, other) → IsTakenAt table count indexes other old new
-taken_at table count indexes other old new takes are is may = by_found (lookup (same_indexes indexes) old) refl takes.none takes.some may
+taken_at : (table : Declaration) (count : ℕ) (indexes : List Datum) (other : Aggregate) (old new : Entries)
+    → TakesOne indexes other old new → AreOfTable table count old → IsOfTable table count other
+    → MayTakeUnder count old (indexes, other) → IsTakenAt table count indexes other old new
+taken_at table count indexes other old new takes are is may =
+    by_found (lookup (same_indexes indexes) old) refl takes.none takes.some may
   where
-    by_found : (found : Option Aggregate) → lookup (same_indexes indexes) old ≡ found → IfNone found (new ≡ old ++ (indexes, other) ∷ [])
-        → IfSome found (λ own. (now : Aggregate) × IsJoined own other now × (new ≡ set_value (same_indexes indexes) old now))
+    by_found : (found : Option Aggregate) → lookup (same_indexes indexes) old ≡ found
+        → IfNone found (new ≡ old ++ (indexes, other) ∷ []) → IfSome found
+        (λ own. (now : Aggregate) × IsJoined own other now × (new ≡ set_value (same_indexes indexes) old now))
         → IfSome found (λ own. MayTake count own other) → IsTakenAt table count indexes other old new
     by_found None none last some may =
-        subst (IsTakenAt table count indexes other old) (sym last) (taken_last table count indexes other old none are is)
+        subst (IsTakenAt table count indexes other old) (sym last)
+        (taken_last table count indexes other old none are is)
     by_found (Some own) there last some may =
         subst (IsTakenAt table count indexes other old) (sym some.2)
         (taken_into table count indexes other old own some.0 there are is may some.1)
 
 -- taking one changes nothing under other index lists
-pub taken_elsewhere : (indexes : List Datum) (other : Aggregate) (old new : Entries) → TakesOne indexes other old new → (others : List Datum)
-    → same_indexes indexes others ≡ false → lookup (same_indexes others) new ≡ lookup (same_indexes others) old
-taken_elsewhere indexes other old new takes others apart = by_found (lookup (same_indexes indexes) old) refl takes.none takes.some
+pub taken_elsewhere : (indexes : List Datum) (other : Aggregate) (old new : Entries) → TakesOne indexes other old new
+    → (others : List Datum) → same_indexes indexes others ≡ false
+    → lookup (same_indexes others) new ≡ lookup (same_indexes others) old
+taken_elsewhere indexes other old new takes others apart =
+    by_found (lookup (same_indexes indexes) old) refl takes.none takes.some
   where
-    by_found : (found : Option Aggregate) → lookup (same_indexes indexes) old ≡ found → IfNone found (new ≡ old ++ (indexes, other) ∷ [])
-        → IfSome found (λ own. (now : Aggregate) × IsJoined own other now × (new ≡ set_value (same_indexes indexes) old now))
+    by_found : (found : Option Aggregate) → lookup (same_indexes indexes) old ≡ found
+        → IfNone found (new ≡ old ++ (indexes, other) ∷ []) → IfSome found
+        (λ own. (now : Aggregate) × IsJoined own other now × (new ≡ set_value (same_indexes indexes) old now))
         → lookup (same_indexes others) new ≡ lookup (same_indexes others) old
     by_found None none last some =
-        ap (lookup (same_indexes others)) last ∙ found_in_front (same_indexes others) old indexes other (same_laws.symm others indexes ∙ apart)
+        ap (lookup (same_indexes others)) last
+        ∙ found_in_front (same_indexes others) old indexes other (same_laws.symm others indexes ∙ apart)
     by_found (Some own) there last some =
         ap (lookup (same_indexes others)) some.2 ∙ found_replaced indexes others old own some.0 there
         ∙ ap (λ b. cond b (Some some.0) (lookup (same_indexes others) old)) apart
 
 -- the others still may be taken
-pub ready_still : (count : ℕ) (indexes : List Datum) (other : Aggregate) (old new : Entries) → TakesOne indexes other old new → (os : Entries)
-    → AllByRecursion (λ l. same_indexes indexes l ≡ false) (keys_of os) → AreReady count old os → AreReady count new os
+pub ready_still : (count : ℕ) (indexes : List Datum) (other : Aggregate) (old new : Entries)
+    → TakesOne indexes other old new → (os : Entries) → AllByRecursion (λ l. same_indexes indexes l ≡ false)
+    (keys_of os) → AreReady count old os → AreReady count new os
 ready_still count indexes other old new takes [] apart ready = tt
 ready_still count indexes other old new takes (o ∷ os) apart ready = (
-  subst (λ found. IfSome found (λ own. MayTake count own o.1)) (sym (taken_elsewhere indexes other old new takes o.0 apart.0)) ready.0,
+  subst (λ found. IfSome found (λ own. MayTake count own o.1))
+      (sym (taken_elsewhere indexes other old new takes o.0 apart.0)) ready.0,
   ready_still count indexes other old new takes os apart.1 ready.1,
 )
 
@@ -343,10 +393,12 @@ IsTaken (o ∷ os) old new = (mid : Entries) × TakesOne o.0 o.1 old mid × IsTa
 
 -- one is taken before the others
 module _ (table : Declaration) (count : ℕ) (indexes : List Datum) (other : Aggregate) (os old mid new : Entries)
-    (apart : AllByRecursion (λ l. same_indexes indexes l ≡ false) (keys_of os)) (step : IsTakenAt table count indexes other old mid)
+    (apart : AllByRecursion (λ l. same_indexes indexes l ≡ false) (keys_of os))
+    (step : IsTakenAt table count indexes other old mid)
     (rest : TakesAll table count os mid new) where
   rows_taken : (others : List Datum) (front later : List Weighted) → rows_found old others ≡ rows_of table front
-      → rows_found ((indexes, other) ∷ os) others ≡ rows_of table later → rows_found new others ≡ rows_of table (front ++ later)
+      → rows_found ((indexes, other) ∷ os) others ≡ rows_of table later
+      → rows_found new others ≡ rows_of table (front ++ later)
   rows_taken others front later before beside = by_test (same_indexes others indexes) refl beside
     where
       by_test : (b : Bool) → same_indexes others indexes ≡ b
@@ -356,37 +408,44 @@ module _ (table : Declaration) (count : ℕ) (indexes : List Datum) (other : Agg
           let is = same_is others indexes same in
           rest.rows others (front ++ later) []
           (ap (rows_found mid) is ∙ step.here front later (ap (rows_found old) (sym is) ∙ before) beside)
-          (ap (rows_found os) is ∙ ap (λ found. option_map_or shown_of found []) (absent indexes os apart) ∙ sym (no_rows table))
-          ∙ ap (rows_of table) (append-nil (front ++ later))
+          (ap (rows_found os) is ∙ ap (λ found. option_map_or shown_of found []) (absent indexes os apart)
+          ∙ sym (no_rows table)) ∙ ap (rows_of table) (append-nil (front ++ later))
       by_test false same beside =
           rest.rows others front later
-          (ap (λ found. option_map_or shown_of found []) (step.elsewhere others (same_laws.symm indexes others ∙ same)) ∙ before) beside
+          (ap (λ found. option_map_or shown_of found [])
+          (step.elsewhere others (same_laws.symm indexes others ∙ same)) ∙ before) beside
 
   takes_more : TakesAll table count ((indexes, other) ∷ os) old new
   takes_more = record { indexes = rest.indexes ∙ step.lists (keys_of os); rows = rows_taken; still = rest.still }
 
-pub takes_none : (table : Declaration) (count : ℕ) (old new : Entries) → new ≡ old → AreOfTable table count old → TakesAll table count [] old new
+pub takes_none : (table : Declaration) (count : ℕ) (old new : Entries) → new ≡ old → AreOfTable table count old
+    → TakesAll table count [] old new
 takes_none table count old new same are = record {
-  indexes = ap (λ h. distinct compare_indexes (keys_of h)) same ∙ ap (distinct compare_indexes) (sym (append-nil (keys_of old)));
+  indexes = ap (λ h. distinct compare_indexes (keys_of h)) same
+      ∙ ap (distinct compare_indexes) (sym (append-nil (keys_of old)));
   rows = λ indexes front later before beside.
       ap (λ h. rows_found h indexes) same ∙ before ∙ ap (rows_of table) (sym (append-nil front))
       ∙ rows_join table front front [] later refl (no_rows table ∙ beside);
   still = subst (AreOfTable table count) (sym same) are;
 }
 
-pub takes_all : (table : Declaration) (count : ℕ) (os : Entries) → IsDistinct same_indexes (keys_of os) → (old new : Entries) → IsTaken os old new
+pub takes_all : (table : Declaration) (count : ℕ) (os : Entries) → IsDistinct same_indexes (keys_of os)
+    → (old new : Entries) → IsTaken os old new
     → AreOfTable table count old → AreOfTable table count os → AreReady count old os → TakesAll table count os old new
 takes_all table count [] apart old new taken are beside ready = takes_none table count old new taken are
 takes_all table count (o ∷ os) apart old new taken are beside ready =
     let head = IsDistinct-head same_indexes o.0 (keys_of os) apart in
-    let step = taken_at table count o.0 o.1 old taken.0 taken.1 are (All-head (IsOfTable table count) o.1 (values_of os) beside) ready.0 in
+    let step = taken_at table count o.0 o.1 old taken.0 taken.1 are
+    (All-head (IsOfTable table count) o.1 (values_of os) beside) ready.0 in
     takes_more table count o.0 o.1 os old taken.0 new head step
     (takes_all table count os (IsDistinct-tail same_indexes o.0 (keys_of os) apart) taken.0 new taken.2 step.still
-    (All-tail (IsOfTable table count) o.1 (values_of os) beside) (ready_still count o.0 o.1 old taken.0 taken.1 os head ready.1))
+    (All-tail (IsOfTable table count) o.1 (values_of os) beside)
+    (ready_still count o.0 o.1 old taken.0 taken.1 os head ready.1))
 
 -- joined lists have the distinct elements of lists with the same ones
 distinct_joined : (xs us ys vs : List (List Datum)) → distinct compare_indexes xs ≡ distinct compare_indexes us
-    → distinct compare_indexes ys ≡ distinct compare_indexes vs → distinct compare_indexes (xs ++ ys) ≡ distinct compare_indexes (us ++ vs)
+    → distinct compare_indexes ys ≡ distinct compare_indexes vs
+    → distinct compare_indexes (xs ++ ys) ≡ distinct compare_indexes (us ++ vs)
 distinct_joined xs us ys vs front later =
     distinct_of_both indexes_total indexes_tie xs ys ∙ ap (all_entered compare_indexes xs) later
     ∙ sym (distinct_of_both indexes_total indexes_tie xs vs) ∙ distinct_of_either indexes_total indexes_tie xs vs
@@ -410,8 +469,8 @@ module _ (number : ℕ) (table : Declaration) (front later : List EmitDatum) (co
 
   under : (indexes : List Datum) → rows_found new indexes ≡ rows_of table (brought_to number indexes (front ++ later))
   under indexes =
-      takes.rows indexes (brought_to number indexes front) (brought_to number indexes later) (rows_stand number table front old before indexes)
-      (rows_stand number table later others beside indexes)
+      takes.rows indexes (brought_to number indexes front) (brought_to number indexes later)
+      (rows_stand number table front old before indexes) (rows_stand number table later others beside indexes)
       ∙ ap (rows_of table) (sym (brought_by_both number indexes front later))
 
   pub rows_of_both : rows_in_order new ≡ table_rows number table (front ++ later)

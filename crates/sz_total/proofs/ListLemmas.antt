@@ -57,14 +57,17 @@ among_entered indexes (l ∷ ls) more = by_found (compare_indexes more l) refl (
         twice (same_indexes indexes l) (is_among indexes ls)
         ∙ ap (λ m. same_indexes indexes m || is_among indexes (l ∷ ls)) (sym (indexes_tie more l is))
     by_found Greater is later =
-        ap (λ b. same_indexes indexes l || b) later ∙ either_way (same_indexes indexes l) (same_indexes indexes more) (is_among indexes ls)
+        ap (λ b. same_indexes indexes l || b) later
+        ∙ either_way (same_indexes indexes l) (same_indexes indexes more) (is_among indexes ls)
 
 -- the distinct index lists are those of the list
-pub among_distinct : (indexes : List Datum) (lists : List (List Datum)) → is_among indexes (distinct compare_indexes lists) ≡ is_among indexes lists
+pub among_distinct : (indexes : List Datum) (lists : List (List Datum))
+    → is_among indexes (distinct compare_indexes lists) ≡ is_among indexes lists
 among_distinct indexes [] = refl
 among_distinct indexes (l ∷ ls) =
     ap (is_among indexes) (distinct_of_both indexes_total indexes_tie (l ∷ []) ls)
-    ∙ among_entered indexes (distinct compare_indexes ls) l ∙ ap (λ b. same_indexes indexes l || b) (among_distinct indexes ls)
+    ∙ among_entered indexes (distinct compare_indexes ls) l
+    ∙ ap (λ b. same_indexes indexes l || b) (among_distinct indexes ls)
 
 -- one index list more
 pub distinct_of_more : (lists : List (List Datum)) (more : List Datum)
@@ -88,20 +91,24 @@ entered_there (l ∷ ls) again there = by_test (same_indexes again l) refl there
         → enters again (distinct compare_indexes (l ∷ ls)) ≡ distinct compare_indexes (l ∷ ls)
     by_test true same there later =
         ap (enters again) first ∙ ap (λ x. enters x (enters l (distinct compare_indexes ls))) (same_is again l same)
-        ∙ entered_again compare_indexes (distinct compare_indexes ls) l ((Equal-is (compare_indexes l l)).0 (same_laws.refl l)) ∙ sym first
+        ∙ entered_again compare_indexes (distinct compare_indexes ls) l
+        ((Equal-is (compare_indexes l l)).0 (same_laws.refl l)) ∙ sym first
     by_test false same there later =
         ap (enters again) first ∙ sym (distinct_of_both indexes_total indexes_tie (again ∷ l ∷ []) ls)
         ∙ ap (dedup (eq_by_cmp compare_indexes))
-        (sorted_in_any_order indexes_total indexes_tie (again ∷ l ∷ ls) (l ∷ again ∷ ls) (IsPermutation-middle (again ∷ []) l ls))
+        (sorted_in_any_order indexes_total indexes_tie (again ∷ l ∷ ls) (l ∷ again ∷ ls)
+        (IsPermutation-middle (again ∷ []) l ls))
         ∙ distinct_of_both indexes_total indexes_tie (l ∷ again ∷ []) ls ∙ ap (enters l) (later there) ∙ sym first
 
 -- where no two are the same they are the distinct ones
-pub distinct_apart : (lists : List (List Datum)) → IsDistinct same_indexes lists → distinct compare_indexes lists ≡ sorted compare_indexes lists
+pub distinct_apart : (lists : List (List Datum)) → IsDistinct same_indexes lists
+    → distinct compare_indexes lists ≡ sorted compare_indexes lists
 distinct_apart [] apart = refl
 distinct_apart (l ∷ ls) apart =
     distinct_of_both indexes_total indexes_tie (l ∷ []) ls
     ∙ ap (λ k. insert_key compare_indexes k l) (distinct_apart ls (IsDistinct-tail same_indexes l ls apart))
-    ∙ entered_apart compare_indexes l (sorted compare_indexes ls) (apart_sorted compare_indexes l ls (IsDistinct-head same_indexes l ls apart))
+    ∙ entered_apart compare_indexes l (sorted compare_indexes ls)
+    (apart_sorted compare_indexes l ls (IsDistinct-head same_indexes l ls apart))
 
 -- the rows that stand under an index list, and none where it isn't there
 abbrev pub rows_among : List Indexed → List Datum → List RowDatum
@@ -122,16 +129,19 @@ module _ (rows : List Datum → List RowDatum) where
   rows_among_for [] indexes = refl
   rows_among_for (l ∷ ls) indexes = by_test (same_indexes indexes l) refl (rows_among_for ls indexes)
     where
-      by_test : (b : Bool) → same_indexes indexes l ≡ b → rows_among (rows_for ls) indexes ≡ cond (is_among indexes ls) (rows indexes) []
+      by_test : (b : Bool) → same_indexes indexes l ≡ b
+          → rows_among (rows_for ls) indexes ≡ cond (is_among indexes ls) (rows indexes) []
           → cond b (rows l) (rows_among (rows_for ls) indexes) ≡ cond (b || is_among indexes ls) (rows indexes) []
       by_test true same later = ap rows (sym (same_is indexes l same))
       by_test false same later = later
 
   -- where others have no rows these are the rows of every index list
-  pub all_rows_for : (lists : List (List Datum)) → ((indexes : List Datum) → is_among indexes lists ≡ false → rows indexes ≡ [])
+  pub all_rows_for : (lists : List (List Datum))
+      → ((indexes : List Datum) → is_among indexes lists ≡ false → rows indexes ≡ [])
       → (indexes : List Datum) → rows_among (rows_for (distinct compare_indexes lists)) indexes ≡ rows indexes
   all_rows_for lists none indexes =
-      rows_among_for (distinct compare_indexes lists) indexes ∙ ap (λ b. cond b (rows indexes) []) (among_distinct indexes lists)
+      rows_among_for (distinct compare_indexes lists) indexes
+      ∙ ap (λ b. cond b (rows indexes) []) (among_distinct indexes lists)
       ∙ by_test (is_among indexes lists) refl
     where
       by_test : (b : Bool) → is_among indexes lists ≡ b → cond b (rows indexes) [] ≡ rows indexes
@@ -139,10 +149,11 @@ module _ (rows : List Datum → List RowDatum) where
       by_test false not_there = sym (none indexes not_there)
 
 -- no emit went where its index list isn't
-nothing_brought : (table : ℕ) (indexes : List Datum) (emits : List EmitDatum) → is_among indexes (indexes_to table emits) ≡ false
-    → brought_to table indexes emits ≡ []
+nothing_brought : (table : ℕ) (indexes : List Datum) (emits : List EmitDatum)
+    → is_among indexes (indexes_to table emits) ≡ false → brought_to table indexes emits ≡ []
 nothing_brought table indexes [] not_there = refl
-nothing_brought table indexes (e ∷ es) not_there = by_table (nat_eq e.table table) not_there (nothing_brought table indexes es)
+nothing_brought table indexes (e ∷ es) not_there =
+    by_table (nat_eq e.table table) not_there (nothing_brought table indexes es)
   where
     to_table : List EmitDatum
     to_table = filter (λ (e : EmitDatum). nat_eq e.table table) es
@@ -157,7 +168,8 @@ nothing_brought table indexes (e ∷ es) not_there = by_table (nat_eq e.table ta
     by_same false same none later =
         ap (λ b. map brought_by (cond b (e ∷ went) went)) (same_laws.symm e.indexes indexes ∙ same) ∙ later none
 
-    by_table : (b : Bool) → is_among indexes (map (λ (e : EmitDatum). e.indexes) (cond b (e ∷ to_table) to_table)) ≡ false
+    by_table : (b : Bool)
+        → is_among indexes (map (λ (e : EmitDatum). e.indexes) (cond b (e ∷ to_table) to_table)) ≡ false
         → (is_among indexes (indexes_to table es) ≡ false → brought_to table indexes es ≡ [])
         → map brought_by (cond (b && is_eq (compare_indexes e.indexes indexes)) (e ∷ went) went) ≡ []
     by_table true none later = by_same (same_indexes indexes e.indexes) refl none later
@@ -168,18 +180,22 @@ pub rows_of_table : (table : ℕ) (declaration : Declaration) (emits : List Emit
     → rows_among (table_rows table declaration emits) indexes ≡ rows_of declaration (brought_to table indexes emits)
 rows_of_table table declaration emits indexes =
     all_rows_for (λ others. rows_of declaration (brought_to table others emits)) (indexes_to table emits)
-    (λ others not_there. ap (rows_of declaration) (nothing_brought table others emits not_there) ∙ no_rows declaration) indexes
+    (λ others not_there. ap (rows_of declaration) (nothing_brought table others emits not_there)
+    ∙ no_rows declaration) indexes
 
 -- one emit more, to the table and to another one
 module _ (table : ℕ) (emits : List EmitDatum) (emit : EmitDatum) where
   indexes_by_test : (b : Bool) → nat_eq emit.table table ≡ b
-      → indexes_to table (emits ++ emit ∷ []) ≡ indexes_to table emits ++ map (λ (e : EmitDatum). e.indexes) (cond b (emit ∷ []) [])
+      → indexes_to table (emits ++ emit ∷ [])
+      ≡ indexes_to table emits ++ map (λ (e : EmitDatum). e.indexes) (cond b (emit ∷ []) [])
   indexes_by_test b is =
-      ap (map (λ (e : EmitDatum). e.indexes)) (filter-append (λ (e : EmitDatum). nat_eq e.table table) emits (emit ∷ []))
+      ap (map (λ (e : EmitDatum). e.indexes))
+      (filter-append (λ (e : EmitDatum). nat_eq e.table table) emits (emit ∷ []))
       ∙ map-append (λ (e : EmitDatum). e.indexes) (filter (λ (e : EmitDatum). nat_eq e.table table) emits) _
       ∙ ap (λ b. indexes_to table emits ++ map (λ (e : EmitDatum). e.indexes) (cond b (emit ∷ []) [])) is
 
-  pub indexes_of_more : nat_eq emit.table table ≡ true → indexes_to table (emits ++ emit ∷ []) ≡ indexes_to table emits ++ emit.indexes ∷ []
+  pub indexes_of_more : nat_eq emit.table table ≡ true
+      → indexes_to table (emits ++ emit ∷ []) ≡ indexes_to table emits ++ emit.indexes ∷ []
   indexes_of_more went = indexes_by_test true went
 
   -- an emit to another table leaves the rows
@@ -190,4 +206,5 @@ module _ (table : ℕ) (emits : List EmitDatum) (emit : EmitDatum) where
       (distinct compare_indexes ((indexes_by_test false not_here ∙ append-nil (indexes_to table emits)) i))
     where
       still : (indexes : List Datum) → brought_to table indexes (emits ++ emit ∷ []) ≡ brought_to table indexes emits
-      still indexes = brought_elsewhere table indexes emits emit (ap (λ b. b && is_eq (compare_indexes emit.indexes indexes)) not_here)
+      still indexes = brought_elsewhere table indexes emits emit
+          (ap (λ b. b && is_eq (compare_indexes emit.indexes indexes)) not_here)

@@ -29,8 +29,8 @@ part_within indexes = below_16 (list_digest indexes)
     below_16 n = omega arith
 
 -- the part with a number is one of the table's
-pub part_of_table : (table : Declaration) (count at : ℕ) (parts : List PartState) → at < length parts → ArePartsOf table count parts
-    → IsPartOf table count at parts
+pub part_of_table : (table : Declaration) (count at : ℕ) (parts : List PartState) → at < length parts
+    → ArePartsOf table count parts → IsPartOf table count at parts
 part_of_table table count at parts less are = record {
   own = part_at parts at;
   there = slice_get-get_or parts at empty_part less;
@@ -50,16 +50,18 @@ pub some_parts : (parts : List PartState) → (length parts ≡ 1) ⊎ (length p
 some_parts parts (inl one) = omega (arith, one)
 some_parts parts (inr many) = omega (arith, many)
 
-pub longer_parts : (table : Declaration) (few many : ℕ) → few ≤ many → (parts : List PartState) → ArePartsOf table few parts → ArePartsOf table many parts
+pub longer_parts : (table : Declaration) (few many : ℕ) → few ≤ many → (parts : List PartState)
+    → ArePartsOf table few parts → ArePartsOf table many parts
 longer_parts table few many more parts are at = of_table_longer table few many more (part_at parts at).entries (are at)
 
 -- parts of one table are alike
 all_alike : (table : Declaration) (count : ℕ) (values : List Aggregate) → All (IsOfTable table count) values
     → All (λ (a : Aggregate). family_of a ≡ family_for table.kind) values
-all_alike table count values are = All-weaker (IsOfTable table count) (λ (a : Aggregate). family_of a ≡ family_for table.kind) (λ a is. is.family) values are
+all_alike table count values are = All-weaker (IsOfTable table count)
+    (λ (a : Aggregate). family_of a ≡ family_for table.kind) (λ a is. is.family) values are
 
-pub parts_alike : (table : Declaration) (mine yours : ℕ) (parts others : List PartState) → ArePartsOf table mine parts → ArePartsOf table yours others
-    → ArePartsAlike parts others
+pub parts_alike : (table : Declaration) (mine yours : ℕ) (parts others : List PartState) → ArePartsOf table mine parts
+    → ArePartsOf table yours others → ArePartsAlike parts others
 parts_alike table mine yours parts others are others_are at = record {
   family = family_for table.kind;
   mine = all_alike table mine (values_of (part_at parts at).entries) (are at);
@@ -67,18 +69,20 @@ parts_alike table mine yours parts others are others_are at = record {
 }
 
 -- a table that took an emit
-pub kept_taken : (table : Declaration) (count : ℕ) (emit : EmitDatum) (old new : List PartState) → IsKept table count old
-    → PartTakesEmit table emit old new → IsKept table (count + 1) new
+pub kept_taken : (table : Declaration) (count : ℕ) (emit : EmitDatum) (old new : List PartState)
+    → IsKept table count old → PartTakesEmit table emit old new → IsKept table (count + 1) new
 kept_taken table count emit old new kept takes = record {
   weights = kept.weights;
-  one_or_many = subst (λ n. (n ≡ 1) ⊎ (n ≡ 16)) (sym (as_many_taken table emit old new kept.placed takes)) kept.one_or_many;
+  one_or_many =
+      subst (λ n. (n ≡ 1) ⊎ (n ≡ 16)) (sym (as_many_taken table emit old new kept.placed takes)) kept.one_or_many;
   placed = placed_taken table emit old new kept.placed takes;
   aggregates = parts_of_taken table emit old new kept.placed takes count kept.aggregates;
   settled = settled_taken table emit old new kept.placed takes kept.settled;
 }
 
 -- a table whose parts have more room
-pub kept_roomier : (table : Declaration) (count : ℕ) (old new : List PartState) → IsKept table count old → PartsLookTheSame old new → IsKept table count new
+pub kept_roomier : (table : Declaration) (count : ℕ) (old new : List PartState) → IsKept table count old
+    → PartsLookTheSame old new → IsKept table count new
 kept_roomier table count old new kept looks = record {
   weights = kept.weights;
   one_or_many = subst (λ n. (n ≡ 1) ⊎ (n ≡ 16)) (sym looks.as_many) kept.one_or_many;
@@ -87,16 +91,17 @@ kept_roomier table count old new kept looks = record {
   settled = settled_roomier old new kept.placed looks kept.settled;
 }
 
-pub changes_roomier : (table : Declaration) (count : ℕ) (old new : List PartState) (state : TableState) → IsKept table count old
-    → PartsLookTheSame old new → (record { table = table; count = count; parts = old }) ≡ state
+pub changes_roomier : (table : Declaration) (count : ℕ) (old new : List PartState) (state : TableState)
+    → IsKept table count old → PartsLookTheSame old new
+    → (record { table = table; count = count; parts = old }) ≡ state
     → ChangesRoomAlone state (record { table = table; count = count; parts = new })
 changes_roomier table count old new state kept looks is =
     subst (λ s. ChangesRoomAlone s (record { table = table; count = count; parts = new })) is
     (record { same_table = refl; same_count = refl; rows = shown_roomier old new kept.placed looks })
 
 -- a table that was dealt out
-pub kept_dealt : (table : Declaration) (count : ℕ) (old new : List PartState) → IsKept table count old → HaveShares (entries_of old) [] new
-    → IsKept table count new
+pub kept_dealt : (table : Declaration) (count : ℕ) (old new : List PartState) → IsKept table count old
+    → HaveShares (entries_of old) [] new → IsKept table count new
 kept_dealt table count old new kept dealt = record {
   weights = kept.weights;
   one_or_many = inr dealt.as_many;
@@ -105,8 +110,9 @@ kept_dealt table count old new kept dealt = record {
   settled = settled_dealt (entries_of old) new dealt;
 }
 
-pub changes_dealt : (table : Declaration) (count : ℕ) (old new : List PartState) (state : TableState) → HaveShares (entries_of old) [] new
-    → (record { table = table; count = count; parts = old }) ≡ state → ChangesRoomAlone state (record { table = table; count = count; parts = new })
+pub changes_dealt : (table : Declaration) (count : ℕ) (old new : List PartState) (state : TableState)
+    → HaveShares (entries_of old) [] new → (record { table = table; count = count; parts = old }) ≡ state
+    → ChangesRoomAlone state (record { table = table; count = count; parts = new })
 changes_dealt table count old new state dealt is =
     subst (λ s. ChangesRoomAlone s (record { table = table; count = count; parts = new })) is
     (record { same_table = refl; same_count = refl; rows = shown_dealt (entries_of old) new dealt part_within })
@@ -115,7 +121,8 @@ changes_dealt table count old new state dealt is =
 pub changes_same : (state : TableState) → ChangesRoomAlone state state
 changes_same state = record { same_table = refl; same_count = refl; rows = refl }
 
-pub changes_both : (first mid last : TableState) → ChangesRoomAlone first mid → ChangesRoomAlone mid last → ChangesRoomAlone first last
+pub changes_both : (first mid last : TableState) → ChangesRoomAlone first mid → ChangesRoomAlone mid last
+    → ChangesRoomAlone first last
 changes_both first mid last before after = record {
   same_table = after.same_table ∙ before.same_table;
   same_count = after.same_count ∙ before.same_count;

@@ -16,12 +16,12 @@ stands_in_any_order forgets total es fs mixed stands = record {
 }
 
 -- tables that join two sides the one way round join them the other way round too
-pub joins_turned : (own other new : TotalState) → other.tables ≡ own.tables → Joins declarations emit_count shown other own new
-    → Joins declarations emit_count shown own other new
+pub joins_turned : (own other new : TotalState) → other.tables ≡ own.tables
+    → Joins declarations emit_count shown other own new → Joins declarations emit_count shown own other new
 joins_turned own other new same joins = record {
   same_tables = joins.same_tables ∙ same;
   both_counts = omega (arith, joins.both_counts);
   joined = λ front later mine yours.
-      stands_in_any_order tables_in_any_order new (later ++ front) (front ++ later) (IsPermutation-append_comm later front)
-      (joins.joined later front yours mine);
+      stands_in_any_order tables_in_any_order new (later ++ front) (front ++ later)
+      (IsPermutation-append_comm later front) (joins.joined later front yours mine);
 }

@@ -15,10 +15,16 @@ use Rattle.sz_total.proofs.MergingLemmas.{tables_joined, total_joined}
 pub total_is_new : (tables : List Declaration) → IsTotal tables 0 (map new_table tables)
 total_is_new tables = record {
   are = tables_new tables;
-  come = record { emits = []; stands = (total_new tables).empty; fit = All-nil (IsEmitTo tables); short = All-nil HasShortParts };
+  come = record {
+    emits = [];
+    stands = (total_new tables).empty;
+    fit = All-nil (IsEmitTo tables);
+    short = All-nil HasShortParts;
+  };
 }
 
-pub total_still : (tables : List Declaration) (count : ℕ) (emit : EmitDatum) (old new : List TableState) → IsTotal tables count old → GainsAt emit old new
+pub total_still : (tables : List Declaration) (count : ℕ) (emit : EmitDatum) (old new : List TableState)
+    → IsTotal tables count old → GainsAt emit old new
     → IsEmitTo tables emit → HasShortParts emit → IsTotal tables (count + 1) new
 total_still tables count emit old new is gains fits short =
     let come = is.come in
@@ -34,19 +40,22 @@ total_still tables count emit old new is gains fits short =
     }
 
 -- what is shown comes from emits that fit: where room alone changed, and after a merge
-pub total_roomier : (tables : List Declaration) (count : ℕ) (old new : List TableState) → ChangeRoomAlone old new → IsTotal tables count old
-    → IsTotal tables count new
+pub total_roomier : (tables : List Declaration) (count : ℕ) (old new : List TableState) → ChangeRoomAlone old new
+    → IsTotal tables count old → IsTotal tables count new
 total_roomier tables count old new kept is = record {
   are = kept.still tables count is.are;
-  come = subst (λ rows. ComesFromEmits (record { tables = tables; count = count; rows = rows })) (sym kept.rows) is.come;
+  come =
+      subst (λ rows. ComesFromEmits (record { tables = tables; count = count; rows = rows })) (sym kept.rows) is.come;
 }
 
-pub total_both : (tables its : List Declaration) (mine yours : ℕ) (first roomy others new : List TableState) → its ≡ tables → IsTotal tables mine first
-    → IsTotal its yours others → ChangeRoomAlone first roomy → JoinTables roomy others new → IsTotal tables (mine + yours) new
+pub total_both : (tables its : List Declaration) (mine yours : ℕ) (first roomy others new : List TableState)
+    → its ≡ tables → IsTotal tables mine first → IsTotal its yours others → ChangeRoomAlone first roomy
+    → JoinTables roomy others new → IsTotal tables (mine + yours) new
 total_both tables its mine yours first roomy others new same is theirs kept joins =
     let beside : AreTables tables yours others = subst (λ t. AreTables t yours others) same theirs.are in
     let one = is.come in
-    let other : ComesFromEmits (state_of tables yours others) = subst (λ t. ComesFromEmits (state_of t yours others)) same theirs.come in
+    let other : ComesFromEmits (state_of tables yours others) =
+    subst (λ t. ComesFromEmits (state_of t yours others)) same theirs.come in
     let both = total_joined tables mine yours first roomy others new is.are beside kept joins
     (state_of tables mine first) (state_of tables yours others) refl refl in
     record {

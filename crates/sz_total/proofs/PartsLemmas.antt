@@ -26,7 +26,8 @@ use Rattle.sz_total.proofs.PartLemmas.{rows_in_part, among_in_part, distinct_ali
 use Rattle.sz_total.proofs.PartLemmas.{placed_by, all_of_table}
 
 -- one part was written
-module _ (old new : List PartState) (at : ℕ) (after : PartState) (within : at < length old) (now : new ≡ set old at after) where
+module _ (old new : List PartState) (at : ℕ) (after : PartState) (within : at < length old)
+    (now : new ≡ set old at after) where
   pub as_many_set : length new ≡ length old
   as_many_set = ap length now ∙ length-set old at after
 
@@ -35,10 +36,12 @@ module _ (old new : List PartState) (at : ℕ) (after : PartState) (within : at 
 
   pub unwritten : (i : ℕ) → nat_eq i at ≡ false → part_at new i ≡ part_at old i
   unwritten i other =
-      ap (λ l. part_at l i) now ∙ get_or-set_other old at i after empty_part (λ same. true≢false (sym (eq-eqb i at same) ∙ other))
+      ap (λ l. part_at l i) now
+      ∙ get_or-set_other old at i after empty_part (λ same. true≢false (sym (eq-eqb i at same) ∙ other))
 
   -- so what holds of it and held of the others holds of all
-  pub each_set : (P : ℕ → PartState → Type 0) → P at after → ((i : ℕ) → P i (part_at old i)) → (i : ℕ) → P i (part_at new i)
+  pub each_set : (P : ℕ → PartState → Type 0) → P at after → ((i : ℕ) → P i (part_at old i)) → (i : ℕ)
+      → P i (part_at new i)
   each_set P here before i = by_test (nat_eq i at) refl
     where
       by_test : (b : Bool) → nat_eq i at ≡ b → P i (part_at new i)
@@ -50,29 +53,35 @@ module _ (old new : List PartState) (at : ℕ) (after : PartState) (within : at 
 -- the front and the rest of a list of which all is such
 all_front : {X : Type 0} (P : X → Type 0) (xs ys : List X) → All P (xs ++ ys) → All P xs
 all_front P [] ys all = All-nil P
-all_front P (x ∷ xs) ys all = All-cons P x xs (All-head P x (xs ++ ys) all) (all_front P xs ys (All-tail P x (xs ++ ys) all))
+all_front P (x ∷ xs) ys all =
+    All-cons P x xs (All-head P x (xs ++ ys) all) (all_front P xs ys (All-tail P x (xs ++ ys) all))
 
 all_rest : {X : Type 0} (P : X → Type 0) (xs ys : List X) → All P (xs ++ ys) → All P ys
 all_rest P [] ys all = all
 all_rest P (x ∷ xs) ys all = all_rest P xs ys (All-tail P x (xs ++ ys) all)
 
 -- where all aggregators are of the table, those of each part are
-values_both : (table : Declaration) (count : ℕ) (p : PartState) (ps : List PartState) → AreOfTable table count (entries_of (p ∷ ps))
+values_both : (table : Declaration) (count : ℕ) (p : PartState) (ps : List PartState)
+    → AreOfTable table count (entries_of (p ∷ ps))
     → All (IsOfTable table count) (values_of p.entries ++ values_of (entries_of ps))
 values_both table count p ps are =
     subst (All (IsOfTable table count)) (map-append (λ (e : List Datum × Aggregate). e.1) p.entries (entries_of ps)) are
 
-each_of_table : (table : Declaration) (count : ℕ) (parts : List PartState) → AreOfTable table count (entries_of parts) → ArePartsOf table count parts
+each_of_table : (table : Declaration) (count : ℕ) (parts : List PartState) → AreOfTable table count (entries_of parts)
+    → ArePartsOf table count parts
 each_of_table table count [] are zero = All-nil (IsOfTable table count)
 each_of_table table count [] are (suc at) = All-nil (IsOfTable table count)
 each_of_table table count (p ∷ ps) are zero =
-    all_front (IsOfTable table count) (values_of p.entries) (values_of (entries_of ps)) (values_both table count p ps are)
+    all_front (IsOfTable table count) (values_of p.entries) (values_of (entries_of ps))
+    (values_both table count p ps are)
 each_of_table table count (p ∷ ps) are (suc at) =
     each_of_table table count ps
-    (all_rest (IsOfTable table count) (values_of p.entries) (values_of (entries_of ps)) (values_both table count p ps are)) at
+    (all_rest (IsOfTable table count) (values_of p.entries) (values_of (entries_of ps))
+    (values_both table count p ps are)) at
 
 -- the part of an emit takes it
-module _ (table : Declaration) (emit : EmitDatum) (old new : List PartState) (placed : ArePlaced old) (takes : PartTakesEmit table emit old new) where
+module _ (table : Declaration) (emit : EmitDatum) (old new : List PartState) (placed : ArePlaced old)
+    (takes : PartTakesEmit table emit old new) where
   abbrev count : ℕ
   count = length old
 
@@ -97,12 +106,14 @@ module _ (table : Declaration) (emit : EmitDatum) (old new : List PartState) (pl
       sym (among_distinct indexes (keys_of takes.after.entries)) ∙ ap (is_among indexes) takes.takes.indexes
       ∙ among_entered indexes (distinct compare_indexes (keys_of takes.before.entries)) emit.indexes
       ∙ ap (λ b. same_indexes indexes emit.indexes || b)
-      (among_distinct indexes (keys_of takes.before.entries) ∙ ap (λ (p : PartState). is_among indexes (keys_of p.entries)) (sym before_is))
+      (among_distinct indexes (keys_of takes.before.entries)
+      ∙ ap (λ (p : PartState). is_among indexes (keys_of p.entries)) (sym before_is))
 
   by_either : (indexes : List Datum) (b : Bool) → same_indexes indexes emit.indexes ≡ b
       → (b || is_among indexes (keys_of (part_at old at).entries)) ≡ true → part_of count indexes ≡ at
   by_either indexes true same there = ap (part_of count) (same_is indexes emit.indexes same)
-  by_either indexes false same there = number_among count at (keys_of (part_at old at).entries) (placed at) indexes there
+  by_either indexes false same there =
+      number_among count at (keys_of (part_at old at).entries) (placed at) indexes there
 
   still_placed : (i : ℕ) → IsPlaced count i (part_at new i).entries
   still_placed =
@@ -125,21 +136,27 @@ module _ (table : Declaration) (emit : EmitDatum) (old new : List PartState) (pl
       (takes.takes.still most (subst (λ (p : PartState). AreOfTable table most p.entries) before_is (are at)))
       (λ i. of_table_longer table most (most + 1) (omega arith) (part_at old i).entries (are i))
 
-  lists_taken : (indexes : List Datum) → is_among indexes (keys_of (entries_of new)) ≡ is_among indexes (emit.indexes ∷ keys_of (entries_of old))
+  lists_taken : (indexes : List Datum)
+      → is_among indexes (keys_of (entries_of new)) ≡ is_among indexes (emit.indexes ∷ keys_of (entries_of old))
   lists_taken indexes =
       among_in_part count new still_placed indexes ∙ by_test (nat_eq (part_of count indexes) at) refl
       ∙ ap (λ b. same_indexes indexes emit.indexes || b) (sym (among_in_part count old placed indexes))
     where
-      elsewhere : nat_eq (part_of count indexes) at ≡ false → (b : Bool) → same_indexes indexes emit.indexes ≡ b → same_indexes indexes emit.indexes ≡ false
+      elsewhere : nat_eq (part_of count indexes) at ≡ false → (b : Bool) → same_indexes indexes emit.indexes ≡ b
+          → same_indexes indexes emit.indexes ≡ false
       elsewhere other true same =
-          absurd (true≢false (sym (eq-eqb (part_of count indexes) at (ap (part_of count) (same_is indexes emit.indexes same))) ∙ other))
+          absurd (true≢false
+          (sym (eq-eqb (part_of count indexes) at (ap (part_of count) (same_is indexes emit.indexes same))) ∙ other))
       elsewhere other false same = same
 
-      by_test : (b : Bool) → nat_eq (part_of count indexes) at ≡ b → is_among indexes (keys_of (part_at new (part_of count indexes)).entries)
-          ≡ (same_indexes indexes emit.indexes || is_among indexes (keys_of (part_at old (part_of count indexes)).entries))
+      by_test : (b : Bool) → nat_eq (part_of count indexes) at ≡ b
+          → is_among indexes (keys_of (part_at new (part_of count indexes)).entries)
+          ≡ (same_indexes indexes emit.indexes
+          || is_among indexes (keys_of (part_at old (part_of count indexes)).entries))
       by_test true same =
           let is = eqb-true (part_of count indexes) at same in
-          ap (λ k. is_among indexes (keys_of (part_at new k).entries)) is ∙ ap (λ (p : PartState). is_among indexes (keys_of p.entries)) after_is
+          ap (λ k. is_among indexes (keys_of (part_at new k).entries)) is
+          ∙ ap (λ (p : PartState). is_among indexes (keys_of p.entries)) after_is
           ∙ among_after indexes
           ∙ ap (λ k. same_indexes indexes emit.indexes || is_among indexes (keys_of (part_at old k).entries)) (sym is)
       by_test false other =
@@ -149,14 +166,17 @@ module _ (table : Declaration) (emit : EmitDatum) (old new : List PartState) (pl
           (sym (elsewhere other (same_indexes indexes emit.indexes) refl))
 
   rows_elsewhere_stay : (indexes : List Datum) → same_indexes emit.indexes indexes ≡ false
-      → rows_found (part_at new (part_of count indexes)).entries indexes ≡ rows_found (part_at old (part_of count indexes)).entries indexes
+      → rows_found (part_at new (part_of count indexes)).entries indexes
+      ≡ rows_found (part_at old (part_of count indexes)).entries indexes
   rows_elsewhere_stay indexes apart = by_test (nat_eq (part_of count indexes) at) refl
     where
       by_test : (b : Bool) → nat_eq (part_of count indexes) at ≡ b
-          → rows_found (part_at new (part_of count indexes)).entries indexes ≡ rows_found (part_at old (part_of count indexes)).entries indexes
+          → rows_found (part_at new (part_of count indexes)).entries indexes
+          ≡ rows_found (part_at old (part_of count indexes)).entries indexes
       by_test true same =
           let is = eqb-true (part_of count indexes) at same in
-          ap (λ k. rows_found (part_at new k).entries indexes) is ∙ ap (λ (p : PartState). rows_found p.entries indexes) after_is
+          ap (λ k. rows_found (part_at new k).entries indexes) is
+          ∙ ap (λ (p : PartState). rows_found p.entries indexes) after_is
           ∙ takes.takes.others indexes apart ∙ ap (λ (p : PartState). rows_found p.entries indexes) (sym before_is)
           ∙ ap (λ k. rows_found (part_at old k).entries indexes) (sym is)
       by_test false other =
@@ -169,33 +189,41 @@ module _ (table : Declaration) (emit : EmitDatum) (old new : List PartState) (pl
         distinct_alike (keys_of (entries_of new)) (emit.indexes ∷ keys_of (entries_of old)) lists_taken
         ∙ distinct_of_both indexes_total indexes_tie (emit.indexes ∷ []) (keys_of (entries_of old));
     rows = λ emits shown.
-        rows_in_part count new still_placed emit.indexes ∙ ap (λ (p : PartState). rows_found p.entries emit.indexes) after_is
+        rows_in_part count new still_placed emit.indexes
+        ∙ ap (λ (p : PartState). rows_found p.entries emit.indexes) after_is
         ∙ takes.takes.rows emits
-        (ap (λ (p : PartState). rows_found p.entries emit.indexes) (sym before_is) ∙ sym (rows_in_part count old placed emit.indexes) ∙ shown);
+        (ap (λ (p : PartState). rows_found p.entries emit.indexes) (sym before_is)
+        ∙ sym (rows_in_part count old placed emit.indexes) ∙ shown);
     others = λ indexes apart.
-        rows_in_part count new still_placed indexes ∙ rows_elsewhere_stay indexes apart ∙ sym (rows_in_part count old placed indexes);
+        rows_in_part count new still_placed indexes ∙ rows_elsewhere_stay indexes apart
+        ∙ sym (rows_in_part count old placed indexes);
     still = λ most are. all_of_table table (most + 1) new (parts_of_taken most (each_of_table table most old are));
   }
 
 -- each part takes that of the other side with its number
-module _ (table : Declaration) (most count : ℕ) (others old new : List PartState) (placed : (i : ℕ) → IsPlaced count i (part_at old i).entries)
+module _ (table : Declaration) (most count : ℕ) (others old new : List PartState)
+    (placed : (i : ℕ) → IsPlaced count i (part_at old i).entries)
     (beside : (i : ℕ) → IsPlaced count i (part_at others i).entries)
-    (takes : (i : ℕ) → TakesAll table most (part_at others i).entries (part_at old i).entries (part_at new i).entries) where
+    (takes : (i : ℕ)
+    → TakesAll table most (part_at others i).entries (part_at old i).entries (part_at new i).entries) where
   among_new : (i : ℕ) (indexes : List Datum) → is_among indexes (keys_of (part_at new i).entries)
       ≡ (is_among indexes (keys_of (part_at old i).entries) || is_among indexes (keys_of (part_at others i).entries))
   among_new i indexes =
-      alike_distinct (keys_of (part_at new i).entries) (keys_of (part_at old i).entries ++ keys_of (part_at others i).entries) (takes i).indexes indexes
+      alike_distinct (keys_of (part_at new i).entries)
+      (keys_of (part_at old i).entries ++ keys_of (part_at others i).entries) (takes i).indexes indexes
       ∙ among_both indexes (keys_of (part_at old i).entries) (keys_of (part_at others i).entries)
 
   by_side : (i : ℕ) (indexes : List Datum) (b : Bool) → is_among indexes (keys_of (part_at old i).entries) ≡ b
       → (b || is_among indexes (keys_of (part_at others i).entries)) ≡ true → part_of count indexes ≡ i
   by_side i indexes true mine there = number_among count i (keys_of (part_at old i).entries) (placed i) indexes mine
-  by_side i indexes false mine there = number_among count i (keys_of (part_at others i).entries) (beside i) indexes there
+  by_side i indexes false mine there =
+      number_among count i (keys_of (part_at others i).entries) (beside i) indexes there
 
   pub placed_both : (i : ℕ) → IsPlaced count i (part_at new i).entries
   placed_both i =
       placed_by count i (keys_of (part_at new i).entries)
-      (λ indexes there. by_side i indexes (is_among indexes (keys_of (part_at old i).entries)) refl (sym (among_new i indexes) ∙ there))
+      (λ indexes there. by_side i indexes (is_among indexes (keys_of (part_at old i).entries)) refl
+      (sym (among_new i indexes) ∙ there))
 
   lists_of_both : (indexes : List Datum) → is_among indexes (keys_of (entries_of new))
       ≡ is_among indexes (keys_of (entries_of old) ++ keys_of (entries_of others))
@@ -206,7 +234,8 @@ module _ (table : Declaration) (most count : ℕ) (others old new : List PartSta
 
   pub takes_parts : TakesAll table most (entries_of others) (entries_of old) (entries_of new)
   takes_parts = record {
-    indexes = distinct_alike (keys_of (entries_of new)) (keys_of (entries_of old) ++ keys_of (entries_of others)) lists_of_both;
+    indexes = distinct_alike (keys_of (entries_of new))
+        (keys_of (entries_of old) ++ keys_of (entries_of others)) lists_of_both;
     rows = λ indexes front later before after.
         rows_in_part count new placed_both indexes
         ∙ (takes (part_of count indexes)).rows indexes front later
@@ -227,8 +256,8 @@ module _ (old new : List PartState) (placed : ArePlaced old) (looks : PartsLookT
       shown_alike (entries_of new) (entries_of old)
       (λ indexes.
       among_in_part (length old) new looks_placed indexes
-      ∙ ap (is_among indexes) (looks.each (part_of (length old) indexes)).keys ∙ sym (among_in_part (length old) old placed indexes))
-      (λ indexes.
+      ∙ ap (is_among indexes) (looks.each (part_of (length old) indexes)).keys
+      ∙ sym (among_in_part (length old) old placed indexes)) (λ indexes.
       rows_in_part (length old) new looks_placed indexes ∙ (looks.each (part_of (length old) indexes)).rows indexes
       ∙ sym (rows_in_part (length old) old placed indexes))
 

@@ -12,14 +12,16 @@ use Rattle.indexmap.specs.declared.map.entry.OccupiedEntry.{OccupiedEntry}
 
 module _ {K V S A H : Type 0} {g : eq.Ghosts K} {h : hash.Ghosts K} {b : builder.Ghosts S H} {w : hasher.Ghosts H} where
   -- a write takes no room
-  room_stays : (own : OccupiedEntry K V S A H g h b w) (value : V) → spare (map_with_value (Occupied own) value) ≡ spare (entry_map (Occupied own))
+  room_stays : (own : OccupiedEntry K V S A H g h b w) (value : V)
+      → spare (map_with_value (Occupied own) value) ≡ spare (entry_map (Occupied own))
   unfolding map_with_value
   room_stays own value = refl
 
-  pub as_much_room : (old : IndexMap K V S) (place : Entry K V S A H g h b w) (own : OccupiedEntry K V S A H g h b w) (value : V) (more : ℕ)
-      → place ≡ Occupied own → spare old ≤ spare (entry_map place)
+  pub as_much_room : (old : IndexMap K V S) (place : Entry K V S A H g h b w) (own : OccupiedEntry K V S A H g h b w)
+      (value : V) (more : ℕ) → place ≡ Occupied own → spare old ≤ spare (entry_map place)
       → index_map_len (map_with_value place value) ≡ index_map_len old + more
-      → index_map_len old + spare old ≤ index_map_len (map_with_value (Occupied own) value) + spare (map_with_value (Occupied own) value)
+      → index_map_len old + spare old
+      ≤ index_map_len (map_with_value (Occupied own) value) + spare (map_with_value (Occupied own) value)
   as_much_room old place own value more is room long =
       let here = ap (λ p. index_map_len (map_with_value p value)) is in
       let there = ap (λ p. spare (entry_map p)) is in

@@ -9,7 +9,14 @@ use Rattle.sz_tabs.specs.Data.{EmitDatum, Shown, one, sums, overflow}
 use Rattle.sz_total.specs.Tables.{Indexed, table_rows}
 
 abbrev hits : Declaration
-hits = record { name = codes "hits"; kind = Sum; limit = 0; indexes = Shape.str ∷ []; element = Shape.int; weight = None }
+hits = record {
+  name = codes "hits";
+  kind = Sum;
+  limit = 0;
+  indexes = Shape.str ∷ [];
+  element = Shape.int;
+  weight = None;
+}
 
 abbrev names : Declaration
 names = record { name = codes "names"; kind = Set; limit = 2; indexes = []; element = Shape.int; weight = None }
@@ -29,7 +36,8 @@ emits =
     hit (str (codes "us") ∷ []) (int (pos 1)) ∷ name (int (pos 7)) ∷ hit (str (codes "de") ∷ []) (int (pos 2))
     ∷ hit (str (codes "us") ∷ []) (int (pos 3)) ∷ name (int (pos 5)) ∷ []
 
-indexes_rise : table_rows 0 hits emits ≡ under (str (codes "de") ∷ []) (sums (pos 2 ∷ [])) ∷ under (str (codes "us") ∷ []) (sums (pos 4 ∷ [])) ∷ []
+indexes_rise : table_rows 0 hits emits
+    ≡ under (str (codes "de") ∷ []) (sums (pos 2 ∷ [])) ∷ under (str (codes "us") ∷ []) (sums (pos 4 ∷ [])) ∷ []
 indexes_rise = refl
 
 -- a set of as many values as its limit, and of one more

@@ -41,22 +41,27 @@ shown_again : (table : ℕ) (declaration : Declaration) (emits : List EmitDatum)
 shown_again table declaration emits [] = refl
 shown_again table declaration emits (l ∷ ls) = ap (λ rest. l ∷ rest) (shown_again table declaration emits ls)
 
-pub indexes_are_shown : (table : ℕ) (declaration : Declaration) (emits : List EmitDatum) → ShowsItsIndexes table declaration emits
+pub indexes_are_shown : (table : ℕ) (declaration : Declaration) (emits : List EmitDatum)
+    → ShowsItsIndexes table declaration emits
 indexes_are_shown table declaration emits =
     let lists = indexes_to table emits in
     let again = sym (shown_again table declaration emits (distinct compare_indexes lists)) in
     record {
       rises = subst (IsStrictlySortedBy compare_indexes) again (distinct_rises indexes_total indexes_tie lists);
-      has_each = λ indexes there. subst (λ l. Contains l indexes) again (distinct_has indexes_total indexes_tie lists indexes there);
-      has_no_other = λ indexes there. distinct_has_no_other indexes_total indexes_tie lists indexes (subst (λ l. Contains l indexes) (sym again) there);
+      has_each = λ indexes there.
+          subst (λ l. Contains l indexes) again (distinct_has indexes_total indexes_tie lists indexes there);
+      has_no_other = λ indexes there. distinct_has_no_other indexes_total indexes_tie lists indexes
+          (subst (λ l. Contains l indexes) (sym again) there);
     }
 
 -- what passes a test of lists that differ in their order differs in its order
 module _ {X : Type 0} (test : X → Bool) where
-  one_more : (x : X) (xs ys : List X) → IsPermutation (filter test xs) (filter test ys) → IsPermutation (filter test (x ∷ xs)) (filter test (x ∷ ys))
+  one_more : (x : X) (xs ys : List X) → IsPermutation (filter test xs) (filter test ys)
+      → IsPermutation (filter test (x ∷ xs)) (filter test (x ∷ ys))
   one_more x xs ys moved = by_test (test x)
     where
-      by_test : (b : Bool) → IsPermutation (cond b (x ∷ filter test xs) (filter test xs)) (cond b (x ∷ filter test ys) (filter test ys))
+      by_test : (b : Bool) → IsPermutation (cond b (x ∷ filter test xs) (filter test xs))
+          (cond b (x ∷ filter test ys) (filter test ys))
       by_test true = IsPermutation-cons x (filter test xs) (filter test ys) moved
       by_test false = moved
 
@@ -76,7 +81,8 @@ module _ {X : Type 0} (test : X → Bool) where
 
   pub passed_in_any_order : (xs ys : List X) → IsPermutation xs ys → IsPermutation (filter test xs) (filter test ys)
   passed_in_any_order =
-      in_any_order (λ xs ys. IsPermutation (filter test xs) (filter test ys)) (λ xs. IsPermutation-refl (filter test xs)) one_more either_first
+      in_any_order (λ xs ys. IsPermutation (filter test xs) (filter test ys))
+      (λ xs. IsPermutation-refl (filter test xs)) one_more either_first
       (λ xs ys zs first second. IsPermutation-trans (filter test xs) (filter test ys) (filter test zs) first second)
 
 brought_in_any_order : (table : ℕ) (indexes : List Datum) (first second : List EmitDatum) → IsPermutation first second
@@ -85,17 +91,20 @@ brought_in_any_order table indexes first second moved =
     IsPermutation-map brought_by (filter (went_to table indexes) first) (filter (went_to table indexes) second)
     (passed_in_any_order (went_to table indexes) first second moved)
 
-under_in_any_order : (table : ℕ) (declaration : Declaration) (first second : List EmitDatum) → IsPermutation first second
-    → (indexes : List Datum) → rows_under table declaration first indexes ≡ rows_under table declaration second indexes
+under_in_any_order : (table : ℕ) (declaration : Declaration) (first second : List EmitDatum)
+    → IsPermutation first second → (indexes : List Datum)
+    → rows_under table declaration first indexes ≡ rows_under table declaration second indexes
 under_in_any_order table declaration first second moved indexes =
     ap (λ rows. record { indexes = indexes; rows = rows })
-    (rows_in_any_order declaration (brought_to table indexes first) (brought_to table indexes second) (brought_in_any_order table indexes first second moved))
+    (rows_in_any_order declaration (brought_to table indexes first) (brought_to table indexes second)
+    (brought_in_any_order table indexes first second moved))
 
 pub tables_in_any_order : ForgetsOrder
 tables_in_any_order table declaration first second moved =
     let went : EmitDatum → Bool = λ (e : EmitDatum). nat_eq e.table table in
     let lists : IsPermutation (indexes_to table first) (indexes_to table second) =
-    IsPermutation-map (λ (e : EmitDatum). e.indexes) (filter went first) (filter went second) (passed_in_any_order went first second moved) in
+    IsPermutation-map (λ (e : EmitDatum). e.indexes) (filter went first) (filter went second)
+    (passed_in_any_order went first second moved) in
     let same : distinct compare_indexes (indexes_to table first) ≡ distinct compare_indexes (indexes_to table second) =
     ap (dedup (eq_by_cmp compare_indexes))
     (sorted_in_any_order indexes_total indexes_tie (indexes_to table first) (indexes_to table second) lists) in

@@ -26,33 +26,40 @@ use Rattle.sz_total.proofs.ListLemmas.{rows_elsewhere}
 
 -- what the model of a table sees of its parts that took an emit
 pub table_gained : (table : Declaration) (count : ℕ) (emit : EmitDatum) (old new : List PartState) (state : TableState)
-    → (record { table = table; count = count; parts = old }) ≡ state → TakesEmit table emit (entries_of old) (entries_of new)
+    → (record { table = table; count = count; parts = old }) ≡ state
+    → TakesEmit table emit (entries_of old) (entries_of new)
     → GainsEmit state (record { table = table; count = count + 1; parts = new }) emit
 table_gained table count emit old new state is takes =
     subst (λ s. GainsEmit s (record { table = table; count = count + 1; parts = new }) emit) is
     (record {
       same_table = refl;
       one_more = refl;
-      rows = λ emits before. rows_with_emit emit.table table emits emit (entries_of old) (entries_of new) refl takes before;
+      rows = λ emits before. rows_with_emit emit.table table emits emit (entries_of old)
+          (entries_of new) refl takes before;
     })
 
 -- a declared table has its state
-pub state_at : (tables : List Declaration) (states : List TableState) → map (λ (s : TableState). s.table) states ≡ tables → (at : ℕ) (table : Declaration)
+pub state_at : (tables : List Declaration) (states : List TableState)
+    → map (λ (s : TableState). s.table) states ≡ tables → (at : ℕ) (table : Declaration)
     → slice_get tables at ≡ Some table → (s : TableState) × (slice_get states at ≡ Some s) × (s.table ≡ table)
 state_at tables states are at table declared = by_found (slice_get states at) refl
   where
     same : option_map (λ (s : TableState). s.table) (slice_get states at) ≡ Some table
     same = sym (slice_get-map (λ (s : TableState). s.table) states at) ∙ ap (λ l. slice_get l at) are ∙ declared
 
-    by_found : (found : Option TableState) → slice_get states at ≡ found → (s : TableState) × (slice_get states at ≡ Some s) × (s.table ≡ table)
-    by_found None is = absurd (let no = ap (option_map (λ (s : TableState). s.table)) is in let none = sym no ∙ same in cc)
-    by_found (Some s) is = (s, is, let yes = ap (option_map (λ (s : TableState). s.table)) is in let one = sym yes ∙ same in cc)
+    by_found : (found : Option TableState) → slice_get states at ≡ found
+        → (s : TableState) × (slice_get states at ≡ Some s) × (s.table ≡ table)
+    by_found None is =
+        absurd (let no = ap (option_map (λ (s : TableState). s.table)) is in let none = sym no ∙ same in cc)
+    by_found (Some s) is =
+        (s, is, let yes = ap (option_map (λ (s : TableState). s.table)) is in let one = sym yes ∙ same in cc)
 
 -- a table that is there has few emits
-pub few_at : (count : ℕ) (states : List TableState) → All (λ (s : TableState). s.count ≤ count) states → (at : ℕ) (s : TableState)
-    → slice_get states at ≡ Some s → s.count ≤ count
+pub few_at : (count : ℕ) (states : List TableState) → All (λ (s : TableState). s.count ≤ count) states
+    → (at : ℕ) (s : TableState) → slice_get states at ≡ Some s → s.count ≤ count
 few_at count states few at s there =
-    subst (λ (s : TableState). s.count ≤ count) (get_or_from_slice_get states at s s there) (few at s (slice_get_within states at s there))
+    subst (λ (s : TableState). s.count ≤ count) (get_or_from_slice_get states at s s there)
+    (few at s (slice_get_within states at s there))
 
 -- the table of an emit that fits the declarations
 module _ (tables : List Declaration) (count : ℕ) (states : List TableState) (are : AreTables tables count states) where
@@ -72,7 +79,8 @@ module _ (emit : EmitDatum) (old new : List TableState) (gains : GainsAt emit ol
   within : emit.table < length old
   within = slice_get_within old emit.table gains.before gains.there
 
-  pub tables_still : (tables : List Declaration) (count : ℕ) → AreTables tables count old → AreTables tables (count + 1) new
+  pub tables_still : (tables : List Declaration) (count : ℕ) → AreTables tables count old
+      → AreTables tables (count + 1) new
   tables_still tables count are =
       let at = get_or_from_slice_get old emit.table gains.before gains.before gains.there in
       let few = subst (λ (s : TableState). s.count ≤ count) at (are.few emit.table gains.before within) in
@@ -84,8 +92,9 @@ module _ (emit : EmitDatum) (old new : List TableState) (gains : GainsAt emit ol
             ∙ are.declared;
         few =
             subst (All (λ (s : TableState). s.count ≤ count + 1)) (sym gains.now)
-            (All-set (λ (s : TableState). s.count ≤ count + 1) old emit.table gains.after (omega (arith, few, gains.gains.one_more))
-            (All-weaker (λ (s : TableState). s.count ≤ count) (λ (s : TableState). s.count ≤ count + 1) (λ s less. omega (arith, less)) old are.few));
+            (All-set (λ (s : TableState). s.count ≤ count + 1) old emit.table gains.after
+            (omega (arith, few, gains.gains.one_more)) (All-weaker (λ (s : TableState). s.count ≤ count)
+            (λ (s : TableState). s.count ≤ count + 1) (λ s less. omega (arith, less)) old are.few));
       }
 
   rows_set : (table : ℕ) → slice_index_or (map table_shown new) table []
@@ -110,7 +119,8 @@ module _ (emit : EmitDatum) (old new : List TableState) (gains : GainsAt emit ol
       (stands : StandsFor declarations emit_count shown (state_of tables count old) emits) where
     declared_before : (table : Declaration) → slice_get tables emit.table ≡ Some table → gains.before.table ≡ table
     declared_before table declared =
-        let same = sym (ap (option_map (λ (s : TableState). s.table)) gains.there) ∙ sym (slice_get-map (λ (s : TableState). s.table) old emit.table)
+        let same = sym (ap (option_map (λ (s : TableState). s.table)) gains.there)
+        ∙ sym (slice_get-map (λ (s : TableState). s.table) old emit.table)
         ∙ ap (λ l. slice_get l emit.table) are.declared ∙ declared in cc
 
     rows_here : (declaration : Declaration) → slice_get tables emit.table ≡ Some declaration
@@ -118,7 +128,8 @@ module _ (emit : EmitDatum) (old new : List TableState) (gains : GainsAt emit ol
     rows_here declaration declared =
         let same = declared_before declaration declared in
         rows_after
-        ∙ gains.gains.rows emits (sym rows_before ∙ stands.rows emit.table declaration declared ∙ ap (λ d. table_rows emit.table d emits) (sym same))
+        ∙ gains.gains.rows emits (sym rows_before ∙ stands.rows emit.table declaration declared
+        ∙ ap (λ d. table_rows emit.table d emits) (sym same))
         ∙ ap (λ d. table_rows emit.table d (emits ++ emit ∷ [])) same
 
     pub rows_with : (table : ℕ) (declaration : Declaration) → slice_get tables table ≡ Some declaration
@@ -140,8 +151,8 @@ module _ (emit : EmitDatum) (old new : List TableState) (gains : GainsAt emit ol
             ∙ stands.rows table declaration declared ∙ sym (rows_elsewhere table emits emit declaration other)
 
 -- what the model of all tables sees after an emit
-pub total_gained : (tables : List Declaration) (count : ℕ) (emit : EmitDatum) (old new : List TableState) (state : TotalState)
-    → state_of tables count old ≡ state → AreTables tables count old → GainsAt emit old new
+pub total_gained : (tables : List Declaration) (count : ℕ) (emit : EmitDatum) (old new : List TableState)
+    (state : TotalState) → state_of tables count old ≡ state → AreTables tables count old → GainsAt emit old new
     → Gains declarations emit_count shown state (state_of tables (count + 1) new) emit
 total_gained tables count emit old new state is are gains =
     subst (λ s. Gains declarations emit_count shown s (state_of tables (count + 1) new) emit) is
@@ -165,17 +176,23 @@ tables_new tables = record {
     again [] = refl
     again (d ∷ ds) = ap (λ l. d ∷ l) (again ds)
 
-none_at : (tables : List Declaration) (table : ℕ) → slice_index_or (map table_shown (map new_table tables)) table [] ≡ []
+none_at : (tables : List Declaration) (table : ℕ)
+    → slice_index_or (map table_shown (map new_table tables)) table [] ≡ []
 none_at [] zero = refl
 none_at [] (suc n) = refl
 none_at (d ∷ ds) zero = refl
 none_at (d ∷ ds) (suc n) = none_at ds n
 
-pub total_new : (tables : List Declaration) → IsNew declarations emit_count shown tables (state_of tables 0 (map new_table tables))
-total_new tables = record { same_tables = refl; empty = record { rows = λ table declaration declared. none_at tables table; counted = refl } }
+pub total_new : (tables : List Declaration)
+    → IsNew declarations emit_count shown tables (state_of tables 0 (map new_table tables))
+total_new tables = record {
+  same_tables = refl;
+  empty = record { rows = λ table declaration declared. none_at tables table; counted = refl };
+}
 
 -- a declaration among these has its weights
-pub weights_at : (items : List TableDecl) (tables : List Declaration) → map seen_table items ≡ tables → HaveTheirWeights tables → (at : ℕ) → at < length items
+pub weights_at : (items : List TableDecl) (tables : List Declaration) → map seen_table items ≡ tables
+    → HaveTheirWeights tables → (at : ℕ) → at < length items
     → (item : TableDecl) → item ≡ slice_index_or items at item → HasItsWeights (seen_table item)
 weights_at items tables seen weights at less item is =
     let long : at < length (map seen_table items) = omega (arith, less, length-map items seen_table) in

@@ -11,7 +11,7 @@ use Rattle.std.proofs.lemmas.List.Sorted.{All-permutation}
 use Rattle.sz_types.specs.Tables.{Declaration}
 use Rattle.sz_types.specs.declared.table.TableKind.{TableKind}
 use Rattle.sz_types.specs.declared.table.TableKind.TheVariants.{Sum, Maximum, Minimum, Set, Collection}
-use Rattle.sz_typing_rules.specs.Types.{has_type, have_types}
+use Rattle.sz_types.specs.Types.{has_type, have_types}
 use Rattle.sz_value.specs.Data.{Datum, data_of}
 use Rattle.sz_value.specs.Order.{compare}
 use Rattle.sz_value.specs.Total.{compare_total}
@@ -30,15 +30,17 @@ use Rattle.sz_total.specs.Typed.{may_show, FitsShown, FitsRow, FitsTable, FitsAs
 use Rattle.sz_total.proofs.TablesLemmas.{indexes_total}
 
 -- what is known of each element is known of those of its sorted list, and of the distinct ones
-all_sorted : {X : Type 0} {order : X → X → Ordering} → IsTotalOrder order → (P : X → Type 0) (xs : List X) → All P xs → All P (sorted order xs)
+all_sorted : {X : Type 0} {order : X → X → Ordering} → IsTotalOrder order → (P : X → Type 0) (xs : List X) → All P xs
+    → All P (sorted order xs)
 all_sorted {X} {order} total P xs all = All-permutation P xs (sorted order xs) (sorted_is_permutation total xs) all
 
-all_distinct : {X : Type 0} {order : X → X → Ordering} → IsTotalOrder order → (P : X → Type 0) (xs : List X) → All P xs → All P (distinct order xs)
+all_distinct : {X : Type 0} {order : X → X → Ordering} → IsTotalOrder order → (P : X → Type 0) (xs : List X)
+    → All P xs → All P (distinct order xs)
 all_distinct {X} {order} total P xs all = All-dedup (eq_by_cmp order) P (sorted order xs) (all_sorted total P xs all)
 
 -- what a test and what is known of each element give, is known of those that pass
-passed_all : {X : Type 0} (test : X → Bool) (P Q : X → Type 0) → ((x : X) → test x ≡ true → P x → Q x) → (xs : List X) → All P xs
-    → All Q (filter test xs)
+passed_all : {X : Type 0} (test : X → Bool) (P Q : X → Type 0) → ((x : X) → test x ≡ true → P x → Q x)
+    → (xs : List X) → All P xs → All Q (filter test xs)
 passed_all test P Q give [] all = All-nil Q
 passed_all test P Q give (x ∷ xs) all = by_test (test x) refl (passed_all test P Q give xs (All-tail P x xs all))
   where
@@ -76,19 +78,23 @@ module _ (table : Declaration) (brought : List Weighted) (come : All (Comes tabl
       All-map Typed (λ (w : Weighted). w.value) brought
       (All-weaker (Comes table) (λ (w : Weighted). Typed w.value) (λ w c. (c.fits.element, c.short)) brought come)
 
-  rows_of_values : (kind : TableKind) → ((v : Datum) → may_show kind (one v) ≡ true) → false ≡ (ranks kind && is_some table.weight)
+  rows_of_values : (kind : TableKind) → ((v : Datum) → may_show kind (one v) ≡ true)
+      → false ≡ (ranks kind && is_some table.weight)
       → (values : List Datum) → All Typed values → All (RowFits kind) (map value_row values)
   rows_of_values kind may none values all =
       All-map (RowFits kind) value_row values
-      (All-weaker Typed (λ (v : Datum). RowFits kind (value_row v)) (λ v fits. record { shows = may v; element = fits; weight = none }) values all)
+      (All-weaker Typed (λ (v : Datum). RowFits kind (value_row v))
+      (λ v fits. record { shows = may v; element = fits; weight = none }) values all)
 
-  rows_by_weight : (kind : TableKind) → ((v : Datum) → may_show kind (one v) ≡ true) → is_some table.weight ≡ (ranks kind && is_some table.weight)
+  rows_by_weight : (kind : TableKind) → ((v : Datum) → may_show kind (one v) ≡ true)
+      → is_some table.weight ≡ (ranks kind && is_some table.weight)
       → {order : Weighted → Weighted → Ordering} → IsTotalOrder order → (limit : ℕ)
       → All (RowFits kind) (map weighted_row (take limit (sorted order brought)))
   rows_by_weight kind may ranked {order} total limit =
       All-map (RowFits kind) weighted_row (take limit (sorted order brought))
       (All-weaker (Comes table) (λ (w : Weighted). RowFits kind (weighted_row w))
-      (λ w c. record { shows = may w.value; element = (c.fits.element, c.short); weight = c.fits.weight ∙ ranked }) (take limit (sorted order brought))
+      (λ w c. record { shows = may w.value; element = (c.fits.element, c.short); weight = c.fits.weight ∙ ranked })
+      (take limit (sorted order brought))
       (All-take (Comes table) limit (sorted order brought) (all_sorted total (Comes table) brought come)))
 
   one_row : (kind : TableKind) (row : RowDatum) → RowFits kind row → All (RowFits kind) (row ∷ [])
@@ -110,9 +116,11 @@ module _ (table : Declaration) (brought : List Weighted) (come : All (Comes tabl
   rows_of_sum : (values : List Datum) → All Typed values → All (RowFits Sum) (sum_rows values)
   rows_of_sum [] all = All-nil (RowFits Sum)
   rows_of_sum (v ∷ vs) all =
-      one_row Sum (record { shown = sums (sums_of (v ∷ vs)); weight = None }) (record { shows = refl; element = sums_wide v vs all; weight = refl })
+      one_row Sum (record { shown = sums (sums_of (v ∷ vs)); weight = None })
+      (record { shows = refl; element = sums_wide v vs all; weight = refl })
 
-  rows_of_set : (b : Bool) (values : List Datum) → All Typed values → All (RowFits Set) (cond b (overflow_row ∷ []) (map value_row values))
+  rows_of_set : (b : Bool) (values : List Datum) → All Typed values
+      → All (RowFits Set) (cond b (overflow_row ∷ []) (map value_row values))
   rows_of_set true values all = one_row Set overflow_row (record { shows = refl; element = tt; weight = refl })
   rows_of_set false values all = rows_of_values Set (λ v. refl) refl values all
 
@@ -124,11 +132,13 @@ module _ (table : Declaration) (brought : List Weighted) (come : All (Comes tabl
       rows_of_set (nat_lt limit (length (distinct compare (values_of brought)))) (distinct compare (values_of brought))
       (all_distinct compare_total Typed (values_of brought) typed)
   rows_for Collection limit =
-      rows_of_values Collection (λ v. refl) refl (sorted compare (values_of brought)) (all_sorted compare_total Typed (values_of brought) typed)
+      rows_of_values Collection (λ v. refl) refl (sorted compare (values_of brought))
+      (all_sorted compare_total Typed (values_of brought) typed)
 
   rows_fit : All (FitsRow table) (rows_of table brought)
   rows_fit =
-      All-weaker (RowFits table.kind) (FitsRow table) (λ row f. record { kind = f.shows; element = f.element; weight = f.weight }) (rows_of table brought)
+      All-weaker (RowFits table.kind) (FitsRow table)
+      (λ row f. record { kind = f.shows; element = f.element; weight = f.weight }) (rows_of table brought)
       (rows_for table.kind table.limit)
 
 first_holds : (a b : Bool) → (a && b) ≡ true → a ≡ true
@@ -136,7 +146,8 @@ first_holds true b both = refl
 first_holds false b both = both
 
 -- what emits that fit bring to a declared table
-module _ (tables : List Declaration) (number : ℕ) (table : Declaration) (declared : slice_get tables number ≡ Some table) (emits : List EmitDatum)
+module _ (tables : List Declaration) (number : ℕ) (table : Declaration)
+    (declared : slice_get tables number ≡ Some table) (emits : List EmitDatum)
     (known : All (λ (e : EmitDatum). IsEmitTo tables e × HasShortParts e) emits) where
   is_its : (e : EmitDatum) → nat_eq e.table number ≡ true → (to : IsEmitTo tables e) → to.table ≡ table
   is_its e here to =
@@ -153,8 +164,10 @@ module _ (tables : List Declaration) (number : ℕ) (table : Declaration) (decla
   lists_fit =
       All-map FitsLists (λ (e : EmitDatum). e.indexes) (filter (λ (e : EmitDatum). nat_eq e.table number) emits)
       (passed_all (λ (e : EmitDatum). nat_eq e.table number) Known (λ (e : EmitDatum). FitsLists e.indexes)
-      (λ e here known.
-      (subst (λ (d : Declaration). have_types e.indexes d.indexes ≡ true) (is_its e here known.0) known.0.indexes, known.1.indexes)) emits known)
+      (λ e here known. (
+        subst (λ (d : Declaration). have_types e.indexes d.indexes ≡ true) (is_its e here known.0) known.0.indexes,
+        known.1.indexes,
+      )) emits known)
 
   brought_come : (indexes : List Datum) → All (Comes table) (brought_to number indexes emits)
   brought_come indexes =
@@ -170,10 +183,16 @@ module _ (tables : List Declaration) (number : ℕ) (table : Declaration) (decla
       let lists = distinct compare_indexes (indexes_to number emits) in
       All-map (FitsTable table) (rows_under number table emits) lists
       (All-weaker FitsLists (λ (l : List Datum). FitsTable table (rows_under number table emits l))
-      (λ l fits. record { indexes = fits.0; short = fits.1; rows = rows_fit table (brought_to number l emits) (brought_come l) }) lists
+      (λ l fits. record {
+        indexes = fits.0;
+        short = fits.1;
+        rows = rows_fit table (brought_to number l emits) (brought_come l);
+      }) lists
       (all_distinct indexes_total FitsLists (indexes_to number emits) lists_fit))
 
 pub shows_what_fits : FitsAsItsEmits
 shows_what_fits total come number table declared =
-    let known : All (λ (e : EmitDatum). IsEmitTo total.tables e × HasShortParts e) come.emits = λ k d within. (come.fit k d within, come.short k d within) in
-    subst (All (FitsTable table)) (sym (come.stands.rows number table declared)) (shown_fits total.tables number table declared come.emits known)
+    let known : All (λ (e : EmitDatum). IsEmitTo total.tables e × HasShortParts e) come.emits =
+    λ k d within. (come.fit k d within, come.short k d within) in
+    subst (All (FitsTable table)) (sym (come.stands.rows number table declared))
+    (shown_fits total.tables number table declared come.emits known)

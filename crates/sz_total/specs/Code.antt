@@ -47,13 +47,15 @@ of_parts_again (Members m) = refl
 -- how an aggregator is stored
 abbrev pub aggregate_code : Coded Aggregate
 aggregate_code =
-    code_by (Summed ⊎ (Extremes ⊎ Counted)) (coded⊎ summed_code (coded⊎ extremes_code counted_code)) parts_of of_parts of_parts_again
+    code_by (Summed ⊎ (Extremes ⊎ Counted))
+    (coded⊎ summed_code (coded⊎ extremes_code counted_code)) parts_of of_parts of_parts_again
 
 -- how a part of a table is stored
 abbrev pub part_code : Coded PartState
 part_code =
     code_by (Entries × (ℕ × Entries))
-    (coded× (coded_list (coded× parts_code aggregate_code)) (coded× coded_ℕ (coded_list (coded× parts_code aggregate_code))))
+    (coded× (coded_list (coded× parts_code aggregate_code))
+    (coded× coded_ℕ (coded_list (coded× parts_code aggregate_code))))
     (λ s. (s.entries, (s.room, s.arriving))) (λ p. record { entries = p.0; room = p.1.0; arriving = p.1.1 }) (λ _. refl)
 
 -- how a table is stored
@@ -65,5 +67,6 @@ table_code =
 -- how all tables are stored
 abbrev pub total_code : Coded TotalState
 total_code =
-    code_by (List Declaration × (ℕ × List (List Indexed))) (coded× declarations_code (coded× coded_ℕ (coded_list (coded_list indexed_code))))
+    code_by (List Declaration × (ℕ × List (List Indexed)))
+    (coded× declarations_code (coded× coded_ℕ (coded_list (coded_list indexed_code))))
     (λ s. (s.tables, (s.count, s.rows))) (λ p. record { tables = p.0; count = p.1.0; rows = p.1.1 }) (λ _. refl)

@@ -45,4 +45,5 @@ pub record MayPut (indexes : List Datum) (parts : List PartState) : Type 0 where
 pub record PutsLast (indexes : List Datum) (aggregate : Aggregate) (old new : List PartState) : Type 0 where
   pub own : PartState
   pub there : slice_get old (part_of 16 indexes) ≡ Some own
-  pub now : new ≡ set old (part_of 16 indexes) (record { entries = own.entries ++ (indexes, aggregate) ∷ []; room = own.room; arriving = own.arriving })
+  pub now : new ≡ set old (part_of 16 indexes)
+      (record { entries = own.entries ++ (indexes, aggregate) ∷ []; room = own.room; arriving = own.arriving })

@@ -43,10 +43,11 @@ rows_in_order entries = map (indexed entries) (distinct compare_indexes (keys_of
 -- the new entries are the old ones, and those of any order that has no index list twice, with its rows in value order
 pub record SortsAll (old new : Entries) : Type 0 where
   pub same : IsPermutation old new
-  pub rows : (all : Entries) → IsDistinct same_indexes (keys_of all) → IsPermutation all old → map entry_rows new ≡ rows_in_order all
+  pub rows : (all : Entries) → IsDistinct same_indexes (keys_of all) → IsPermutation all old
+      → map entry_rows new ≡ rows_in_order all
 
--- the aggregator is one of the table and of the family that its kind needs, counts at most so many emits, and stands for some list of
--- emits whose values have short lengths
+-- the aggregator is one of the table and of the family that its kind needs, counts at most so many emits, and stands
+-- for some list of emits whose values have short lengths
 pub record IsOfTable (table : Declaration) (count : ℕ) (aggregate : Aggregate) : Type 0 where
   pub declared : declaration_of aggregate ≡ table
   pub family : family_of aggregate ≡ family_for table.kind
@@ -63,10 +64,13 @@ AreOfTable table count entries = All (IsOfTable table count) (values_of entries)
 abbrev pub AreBounded : Entries → Type 0
 AreBounded entries = All IsBounded (values_of entries)
 
--- the rows under the emit's index list are those of one emit more, those under others stay, and what was kept to still is
+-- the rows under the emit's index list are those of one emit more, those under others stay, and what was kept to
+-- still is
 pub record TakesEmit (table : Declaration) (emit : EmitDatum) (old new : Entries) : Type 0 where
-  pub indexes : distinct compare_indexes (keys_of new) ≡ insert_key compare_indexes (distinct compare_indexes (keys_of old)) emit.indexes
+  pub indexes : distinct compare_indexes (keys_of new)
+      ≡ insert_key compare_indexes (distinct compare_indexes (keys_of old)) emit.indexes
   pub rows : (emits : List Weighted) → rows_found old emit.indexes ≡ rows_of table emits
       → rows_found new emit.indexes ≡ rows_of table (emits ++ brought_by emit ∷ [])
-  pub others : (indexes : List Datum) → same_indexes emit.indexes indexes ≡ false → rows_found new indexes ≡ rows_found old indexes
+  pub others : (indexes : List Datum) → same_indexes emit.indexes indexes ≡ false
+      → rows_found new indexes ≡ rows_found old indexes
   pub still : (count : ℕ) → AreOfTable table count old → AreOfTable table (count + 1) new

@@ -66,8 +66,8 @@ pub record TakesOne (indexes : List Datum) (other : Aggregate) (old new : Entrie
 abbrev pub AreReady : ℕ → Entries → Entries → Type 0
 AreReady count entries others = AllByRecursion (MayTakeUnder count entries) others
 
--- the index lists are those of both sides; where the rows of each are those of some emits, the new ones are those of both; and each
--- aggregator is one of the table
+-- the index lists are those of both sides; where the rows of each are those of some emits, the new ones are those of
+-- both; and each aggregator is one of the table
 pub record TakesAll (table : Declaration) (count : ℕ) (others old new : Entries) : Type 0 where
   pub indexes : distinct compare_indexes (keys_of new) ≡ distinct compare_indexes (keys_of old ++ keys_of others)
   pub rows : (indexes : List Datum) (front later : List Weighted) → rows_found old indexes ≡ rows_of table front
@@ -76,5 +76,5 @@ pub record TakesAll (table : Declaration) (count : ℕ) (others old new : Entrie
 
 -- all aggregators of the other side are taken, whichever table both sides are of
 pub record JoinsEntries (others old new : Entries) : Type 0 where
-  pub takes : (table : Declaration) (count : ℕ) → AreOfTable table count old → AreOfTable table count others → AreReady count old others
-      → TakesAll table count others old new
+  pub takes : (table : Declaration) (count : ℕ) → AreOfTable table count old → AreOfTable table count others
+      → AreReady count old others → TakesAll table count others old new

@@ -14,8 +14,10 @@ indexes_shown shown = map (λ (s : Indexed). s.indexes) shown
 -- the index lists with rows rise in value order, each index list of an emit to the table is among them, and no other is
 pub record ShowsItsIndexes (table : ℕ) (declaration : Declaration) (emits : List EmitDatum) : Type 0 where
   pub rises : IsStrictlySortedBy compare_indexes (indexes_shown (table_rows table declaration emits))
-  pub has_each : (indexes : List Datum) → Contains (indexes_to table emits) indexes → Contains (indexes_shown (table_rows table declaration emits)) indexes
-  pub has_no_other : (indexes : List Datum) → Contains (indexes_shown (table_rows table declaration emits)) indexes → Contains (indexes_to table emits) indexes
+  pub has_each : (indexes : List Datum) → Contains (indexes_to table emits) indexes
+      → Contains (indexes_shown (table_rows table declaration emits)) indexes
+  pub has_no_other : (indexes : List Datum) → Contains (indexes_shown (table_rows table declaration emits)) indexes
+      → Contains (indexes_to table emits) indexes
 
 -- the rows of a table are the same in whatever order the emits came
 abbrev pub ForgetsOrder : Type 0

@@ -44,12 +44,14 @@ pub record ChangeRoomAlone (old new : List TableState) : Type 0 where
 -- each table has room for that of the other side
 abbrev pub HaveRoomToMerge : List TableState → List TableState → Type 0
 HaveRoomToMerge states others =
-    (at : ℕ) (own other : TableState) → slice_get states at ≡ Some own → slice_get others at ≡ Some other → HasRoomToMerge own other
+    (at : ℕ) (own other : TableState) → slice_get states at ≡ Some own → slice_get others at ≡ Some other
+    → HasRoomToMerge own other
 
 -- each table has few enough emits to be merged with that of the other side
 abbrev pub AreFew : List TableState → List TableState → Type 0
 AreFew states others =
-    (at : ℕ) (own other : TableState) → slice_get states at ≡ Some own → slice_get others at ≡ Some other → own.count + other.count ≤ 2 ^ 63
+    (at : ℕ) (own other : TableState) → slice_get states at ≡ Some own → slice_get others at ≡ Some other
+    → own.count + other.count ≤ 2 ^ 63
 
 -- the other table may be merged with that at the place
 pub record MayMergeAt (at : ℕ) (other : TableState) (states : List TableState) : Type 0 where

@@ -21,7 +21,8 @@ pub record TableState : Type 0 where
 abbrev pub table_shown : TableState → List Indexed
 table_shown s = rows_in_order (entries_of s.parts)
 
--- the table has its weights, and one part or 16; each index list lies in its part, and nothing waits; the aggregators are of the table
+-- the table has its weights, and one part or 16; each index list lies in its part, and nothing waits; the aggregators
+-- are of the table
 pub record IsKept (table : Declaration) (count : ℕ) (parts : List PartState) : Type 0 where
   pub weights : HasItsWeights table
   pub one_or_many : (length parts ≡ 1) ⊎ (length parts ≡ 16)
@@ -52,7 +53,8 @@ pub record JoinsTable (old other new : TableState) : Type 0 where
   pub same_table : new.table ≡ old.table
   pub both_counts : new.count ≡ old.count + other.count
   pub rows : (number : ℕ) (front later : List EmitDatum) → table_shown old ≡ table_rows number old.table front
-      → table_shown other ≡ table_rows number old.table later → table_shown new ≡ table_rows number old.table (front ++ later)
+      → table_shown other ≡ table_rows number old.table later
+      → table_shown new ≡ table_rows number old.table (front ++ later)
 
 -- a declared table before any emit
 abbrev pub new_table : Declaration → TableState

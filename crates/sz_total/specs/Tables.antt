@@ -17,8 +17,12 @@ pub record Indexed : Type 0 where
 
 -- the rows under an index list of what the emits bring to the table under it
 abbrev pub rows_under : ℕ → Declaration → List EmitDatum → List Datum → Indexed
-rows_under table declaration emits indexes = record { indexes = indexes; rows = rows_of declaration (brought_to table indexes emits) }
+rows_under table declaration emits indexes = record {
+  indexes = indexes;
+  rows = rows_of declaration (brought_to table indexes emits);
+}
 
 -- the rows of a declared table with this number: its index lists in value order, each once, with the rows under it
 abbrev pub table_rows : ℕ → Declaration → List EmitDatum → List Indexed
-table_rows table declaration emits = map (rows_under table declaration emits) (distinct compare_indexes (indexes_to table emits))
+table_rows table declaration emits =
+    map (rows_under table declaration emits) (distinct compare_indexes (indexes_to table emits))

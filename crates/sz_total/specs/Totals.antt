@@ -4,9 +4,11 @@ use Rattle.sz_types.specs.Tables.{Declaration}
 use Rattle.sz_tabs.specs.Data.{EmitDatum}
 use Rattle.sz_total.specs.Tables.{Indexed, table_rows}
 
--- A type of tables, by what is known of each: the declarations, the number of emits, and the rows of the table with a number.
+-- A type of tables, by what is known of each: the declarations, the number of emits, and the rows of the table with a
+-- number.
 module _ {S : Type 0} (declarations : S → List Declaration) (count : S → ℕ) (shown : S → ℕ → List Indexed) where
-  -- The tables stand for the list of emits: each has the rows of the list, and the number of emits is the list's length.
+  -- The tables stand for the list of emits: each has the rows of the list, and the number of emits is the list's
+  -- length.
   pub record StandsFor (s : S) (emits : List EmitDatum) : Type 0 where
     pub rows : (table : ℕ) (declaration : Declaration) → slice_get (declarations s) table ≡ Some declaration
         → shown s table ≡ table_rows table declaration emits
@@ -27,4 +29,5 @@ module _ {S : Type 0} (declarations : S → List Declaration) (count : S → ℕ
   pub record Joins (old other new : S) : Type 0 where
     pub same_tables : declarations new ≡ declarations old
     pub both_counts : count new ≡ count old + count other
-    pub joined : (front later : List EmitDatum) → StandsFor old front → StandsFor other later → StandsFor new (front ++ later)
+    pub joined : (front later : List EmitDatum) → StandsFor old front → StandsFor other later
+        → StandsFor new (front ++ later)

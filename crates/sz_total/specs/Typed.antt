@@ -3,7 +3,7 @@ use Rattle.std.specs.Prelude.{◌≡◌, ◌&&◌, ⊤, ℕ, Bool, true, false, 
 use Rattle.sz_types.specs.Tables.{Declaration}
 use Rattle.sz_types.specs.declared.table.TableKind.{TableKind}
 use Rattle.sz_types.specs.declared.table.TableKind.TheVariants as kinds
-use Rattle.sz_typing_rules.specs.Types.{has_type, have_types}
+use Rattle.sz_types.specs.Types.{has_type, have_types}
 use Rattle.sz_value.specs.Data.{data_of}
 use Rattle.sz_flat.specs.Spelling.{HasShortLengths, HaveShortLengths}
 use Rattle.sz_tabs.specs.Data.{Shown, one, sums, overflow, RowDatum}
@@ -13,7 +13,8 @@ use Rattle.sz_total.specs.Origin.{ComesFromEmits}
 use Rattle.sz_total.specs.States.{TotalState, shown}
 use Rattle.sz_total.specs.Tables.{Indexed}
 
--- whether a table of this kind may show this: sums in one of sums, that there are too many values in one of sets, and else a value
+-- whether a table of this kind may show this: sums in one of sums, that there are too many values in one of sets, and
+-- else a value
 abbrev pub may_show : TableKind → Shown → Bool
 may_show kinds.Sum (sums numbers) = true
 may_show kinds.Maximum (one value) = true
@@ -29,7 +30,8 @@ FitsShown table (one value) = (has_type value table.element ≡ true) × HasShor
 FitsShown table (sums numbers) = length numbers ≡ width table.element
 FitsShown table overflow = ⊤
 
--- the row shows what its table may show, it fits the element type, and there is a weight just where the table ranks by weights that it has
+-- the row shows what its table may show, it fits the element type, and there is a weight just where the table ranks
+-- by weights that it has
 pub record FitsRow (table : Declaration) (row : RowDatum) : Type 0 where
   pub kind : may_show table.kind row.shown ≡ true
   pub element : FitsShown table row.shown
@@ -44,7 +46,8 @@ pub record FitsTable (table : Declaration) (indexed : Indexed) : Type 0 where
 -- what each table shows fits it
 abbrev pub ShowsWhatFits : TotalState → Type 0
 ShowsWhatFits total =
-    (number : ℕ) (table : Declaration) → slice_get total.tables number ≡ Some table → All (FitsTable table) (shown total number)
+    (number : ℕ) (table : Declaration) → slice_get total.tables number ≡ Some table
+    → All (FitsTable table) (shown total number)
 
 -- what comes from emits that fit, fits
 abbrev pub FitsAsItsEmits : Type 0

@@ -29,11 +29,13 @@ pairs_of_row_is : (n : _) (row : Row_of-Pair n) → pairs_of_row row ≡ pairs_o
 pairs_of_row_is n end_of-Pair = refl
 pairs_of_row_is n (more_of-Pair k v ps) = ap (pair (tree_of k) (tree_of v)) (pairs_of_row_is _ ps)
 
-params_of_row_is : (n : _) (row : Row_of-Param n) → params_of_row row ≡ params_of (map param_of (items-the_row-Param n row))
+params_of_row_is : (n : _) (row : Row_of-Param n)
+    → params_of_row row ≡ params_of (map param_of (items-the_row-Param n row))
 params_of_row_is n end_of-Param = refl
 params_of_row_is n (more_of-Param m t ps) = ap (param m (type_of t)) (params_of_row_is _ ps)
 
-fields_of_row_is : (n : _) (row : Row_of-ProtoField n) → fields_of_row row ≡ fields_of (map field_of (items-the_row-ProtoField n row))
+fields_of_row_is : (n : _) (row : Row_of-ProtoField n)
+    → fields_of_row row ≡ fields_of (map field_of (items-the_row-ProtoField n row))
 fields_of_row_is n end_of-ProtoField = refl
 fields_of_row_is n (more_of-ProtoField m t k l fs) = ap (proto_field m (type_of t) k l) (fields_of_row_is _ fs)
 
@@ -42,23 +44,32 @@ stms_of_row_is n end_of-Stmt = refl
 stms_of_row_is n (more_of-Stmt s ss) = ap (stm (stm_of s)) (stms_of_row_is _ ss)
 
 pub tree_of_call : (n : Ident) (v : Vec Expr) → tree_of (exprs.Call n v) ≡ call n (exps_of (map tree_of v.items))
-tree_of_call n v = ap (call n) (trees_of_row_is _ (hidden-the_row-Expr-0 v) ∙ ap (λ (es : List Expr). exps_of (map tree_of es)) (items_hidden-the_row-Expr-0 v))
+tree_of_call n v = ap (call n) (trees_of_row_is _ (hidden-the_row-Expr-0 v)
+    ∙ ap (λ (es : List Expr). exps_of (map tree_of es)) (items_hidden-the_row-Expr-0 v))
 
 pub tree_of_list : (p : Place) (v : Vec Expr) → tree_of (exprs.List p v) ≡ list p (exps_of (map tree_of v.items))
-tree_of_list p v = ap (list p) (trees_of_row_is _ (hidden-the_row-Expr-0 v) ∙ ap (λ (es : List Expr). exps_of (map tree_of es)) (items_hidden-the_row-Expr-0 v))
+tree_of_list p v = ap (list p) (trees_of_row_is _ (hidden-the_row-Expr-0 v)
+    ∙ ap (λ (es : List Expr). exps_of (map tree_of es)) (items_hidden-the_row-Expr-0 v))
 
 pub tree_of_map : (p : Place) (v : Vec Pair) → tree_of (exprs.Map p v) ≡ mapping p (pairs_of (map pair_of v.items))
-tree_of_map p v = ap (mapping p) (pairs_of_row_is _ (hidden-the_row-Pair-1 v) ∙ ap (λ (ps : List Pair). pairs_of (map pair_of ps)) (items_hidden-the_row-Pair-1 v))
+tree_of_map p v = ap (mapping p) (pairs_of_row_is _ (hidden-the_row-Pair-1 v)
+    ∙ ap (λ (ps : List Pair). pairs_of (map pair_of ps)) (items_hidden-the_row-Pair-1 v))
 
 pub type_of_tuple : (p : Place) (v : Vec Param) → type_of (trees.Tuple p v) ≡ tuple p (params_of (map param_of v.items))
-type_of_tuple p v = ap (tuple p) (params_of_row_is _ (hidden-the_row-Param-0 v) ∙ ap (λ (ps : List Param). params_of (map param_of ps)) (items_hidden-the_row-Param-0 v))
+type_of_tuple p v = ap (tuple p) (params_of_row_is _ (hidden-the_row-Param-0 v)
+    ∙ ap (λ (ps : List Param). params_of (map param_of ps)) (items_hidden-the_row-Param-0 v))
 
-pub type_of_proto : (p : Place) (v : Vec ProtoField) → type_of (trees.Proto p v) ≡ proto p (fields_of (map field_of v.items))
-type_of_proto p v = ap (proto p) (fields_of_row_is _ (hidden-the_row-ProtoField-1 v) ∙ ap (λ (fs : List ProtoField). fields_of (map field_of fs)) (items_hidden-the_row-ProtoField-1 v))
+pub type_of_proto : (p : Place) (v : Vec ProtoField)
+    → type_of (trees.Proto p v) ≡ proto p (fields_of (map field_of v.items))
+type_of_proto p v = ap (proto p) (fields_of_row_is _ (hidden-the_row-ProtoField-1 v)
+    ∙ ap (λ (fs : List ProtoField). fields_of (map field_of fs)) (items_hidden-the_row-ProtoField-1 v))
 
 pub stm_of_block : (p : Place) (v : Vec Stmt) → stm_of (stmts.Block p v) ≡ block p (stms_of (map stm_of v.items))
-stm_of_block p v = ap (block p) (stms_of_row_is _ (hidden-the_row-Stmt-0 v) ∙ ap (λ (ss : List Stmt). stms_of (map stm_of ss)) (items_hidden-the_row-Stmt-0 v))
+stm_of_block p v = ap (block p) (stms_of_row_is _ (hidden-the_row-Stmt-0 v)
+    ∙ ap (λ (ss : List Stmt). stms_of (map stm_of ss)) (items_hidden-the_row-Stmt-0 v))
 
-pub stm_of_function : (n : Ident) (ps : Vec Param) (t : TypeTree) (v : Vec Stmt) → stm_of (stmts.Function n ps t v) ≡ function n (params_of (map param_of ps.items)) (type_of t) (stms_of (map stm_of v.items))
+pub stm_of_function : (n : Ident) (ps : Vec Param) (t : TypeTree) (v : Vec Stmt) → stm_of (stmts.Function n ps t v)
+    ≡ function n (params_of (map param_of ps.items)) (type_of t) (stms_of (map stm_of v.items))
 stm_of_function n ps t v =
-    ap (function n (params_of (map param_of ps.items)) (type_of t)) (stms_of_row_is _ (hidden-the_row-Stmt-0 v) ∙ ap (λ (ss : List Stmt). stms_of (map stm_of ss)) (items_hidden-the_row-Stmt-0 v))
+    ap (function n (params_of (map param_of ps.items)) (type_of t)) (stms_of_row_is _ (hidden-the_row-Stmt-0 v)
+    ∙ ap (λ (ss : List Stmt). stms_of (map stm_of ss)) (items_hidden-the_row-Stmt-0 v))

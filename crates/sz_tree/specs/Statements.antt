@@ -167,7 +167,8 @@ unfoldable mutual
   stm_height (if_else p c s t) = 1 + max (max (height c) (stm_height s)) (stm_height t)
   stm_height (while p c s) = 1 + max (height c) (stm_height s)
   stm_height (do_while p s c) = 1 + max (stm_height s) (height c)
-  stm_height (for_loop p f c t s) = 1 + max (max (part_height first_height f) (part_height height c)) (max (part_height simple_height t) (stm_height s))
+  stm_height (for_loop p f c t s) = 1 + max (max (part_height first_height f) (part_height height c))
+      (max (part_height simple_height t) (stm_height s))
   stm_height (break p) = 1
   stm_height (continue p) = 1
   stm_height (return p e) = 1 + part_height height e

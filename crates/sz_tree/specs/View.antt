@@ -147,7 +147,8 @@ abbrev mutual
   stm_of (stmts.If' p c b s o) = if_of p (tree_of c) (stm_of s) (else_of o)
   stm_of (stmts.While' p c b s) = while p (tree_of c) (stm_of s)
   stm_of (stmts.DoWhile' p b s c) = do_while p (stm_of s) (tree_of c)
-  stm_of (stmts.For' p f c t b s) = for_loop p (option_map first_of f) (option_map tree_of c) (option_map simple_of t) (stm_of s)
+  stm_of (stmts.For' p f c t b s) =
+      for_loop p (option_map first_of f) (option_map tree_of c) (option_map simple_of t) (stm_of s)
   stm_of (stmts.Break p) = break p
   stm_of (stmts.Continue p) = continue p
   stm_of (stmts.Return p e) = return p (option_map tree_of e)

@@ -17,7 +17,8 @@ mutual
   alike_equal bytes bytes h = refl
   alike_equal (array s) (array t) h = ap array (alike_equal s t h)
   alike_equal (mapping k v) (mapping l w) h =
-      λ i. mapping (alike_equal k l (first_so (alike k l) (alike v w) h) i) (alike_equal v w (second_so (alike k l) (alike v w) h) i)
+      λ i. mapping (alike_equal k l (first_so (alike k l) (alike v w) h) i)
+      (alike_equal v w (second_so (alike k l) (alike v w) h) i)
   alike_equal (tuple fs) (tuple gs) h = ap tuple (fields_equal fs gs h)
   alike_equal (proto fs) (proto gs) h = ap proto (fields_equal fs gs h)
   alike_equal s t h = absurd (true≢false (sym h))
@@ -33,7 +34,8 @@ mutual
       λ i. field ((bytes_decides name other).0 (first_so names types two) i)
       (alike_equal s t (second_so names types two) i)
       (eqb-true number place (second_so (names && types) numbers three) i)
-      (encoding_apart code way (eqb-true (encoding_number code) (encoding_number way) (second_so (names && types && numbers) codes h)) i)
+      (encoding_apart code way
+      (eqb-true (encoding_number code) (encoding_number way) (second_so (names && types && numbers) codes h)) i)
 
   fields_equal : (fs gs : FieldShapes) → alike_fields fs gs ≡ true → fs ≡ gs
   fields_equal no_fields no_fields h = refl
@@ -59,7 +61,8 @@ mutual
 
   field_itself : (f : FieldShape) → alike_field f f ≡ true
   field_itself (field name s number code) =
-      λ i. (bytes_decides name name).1 refl i && alike_itself s i && eq-eqb number number refl i && eq-eqb (encoding_number code) (encoding_number code) refl i
+      λ i. (bytes_decides name name).1 refl i && alike_itself s i && eq-eqb number number refl i
+      && eq-eqb (encoding_number code) (encoding_number code) refl i
 
   fields_itself : (fs : FieldShapes) → alike_fields fs fs ≡ true
   fields_itself no_fields = refl

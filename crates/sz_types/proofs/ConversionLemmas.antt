@@ -62,7 +62,8 @@ by_row : (from to : Shape) → has_row from to ≡ true → converts_to from to 
 by_row from to row = ap (λ b. b || alike from to) row
 
 by_equality : (from to : Shape) → from ≡ to → converts_to from to ≡ true
-by_equality from to same = subst (λ t. converts_to from t ≡ true) same (ap (λ b. has_row from from || b) (alike_itself from) ∙ always (has_row from from))
+by_equality from to same = subst (λ t. converts_to from t ≡ true) same
+    (ap (λ b. has_row from from || b) (alike_itself from) ∙ always (has_row from from))
   where
     always : (b : Bool) → (b || true) ≡ true
     always true = refl
@@ -72,7 +73,8 @@ by_equality from to same = subst (λ t. converts_to from t ≡ true) same (ap (�
 pub table_is_exact : (from to : Shape)
     → (converts_to from to ≡ true) ↔ ((from ≡ to) ⊎ (Contains rows (from, to) ⊎ ((from ≡ bytes) × IsProto to)))
 table_is_exact from to = (
-  λ h. ⊎_elim (λ row. inr (row_listed from to row)) (λ same. inl (alike_equal from to same)) (either (has_row from to) (alike from to) h),
+  λ h. ⊎_elim (λ row. inr (row_listed from to row)) (λ same. inl (alike_equal from to same))
+      (either (has_row from to) (alike from to) h),
   λ h. ⊎_elim (by_equality from to) (λ row. by_row from to (⊎_elim
       (λ listed. All-contains (λ row. has_row row.0 row.1 ≡ true) rows (from, to) listed_rows listed)
       (λ message. subst (λ f. has_row f to ≡ true) (sym message.0) (proto_row to message.1)) row)) h,

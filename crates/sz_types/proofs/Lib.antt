@@ -1,3 +1,5 @@
+pub mod TypeLemmas
+pub mod TypingForCallers
 pub mod ForCallers
 pub mod SeenLemmas
 pub mod SameLemmas

@@ -6,7 +6,8 @@ use Rattle.std.proofs.Math.ListN.{drop_of_length-le}
 -- the elements from a place on
 pub rest_more : {A B : Type 0} (f : A → B) (xs : List A) (i : ℕ) (x : A) → i < length xs → x ≡ get_or xs i x
     → map f (drop i xs) ≡ f x ∷ map f (drop (i + 1) xs)
-rest_more f xs i x within is = ap (map f) (drop_more xs i x within) ∙ ap (λ (y : _). f y ∷ map f (drop (i + 1) xs)) (sym is)
+rest_more f xs i x within is = ap (map f) (drop_more xs i x within)
+    ∙ ap (λ (y : _). f y ∷ map f (drop (i + 1) xs)) (sym is)
 
 pub rest_none : {A B : Type 0} (f : A → B) (xs : List A) (i : ℕ) → length xs ≤ i → map f (drop i xs) ≡ []
 rest_none f xs i over = ap (map f) (drop_of_length-le xs over)

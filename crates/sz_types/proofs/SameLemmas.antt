@@ -17,7 +17,8 @@ lengths_differ [] [] differ = absurd (differ refl)
 lengths_differ [] (w ∷ ws) differ = refl
 lengths_differ (v ∷ vs) [] differ = refl
 lengths_differ (v ∷ vs) (w ∷ ws) differ =
-    ap (λ b. alike_field (seen_field v) (seen_field w) && b) (lengths_differ vs ws (λ same. differ (omega (arith, same))))
+    ap (λ b. alike_field (seen_field v) (seen_field w) && b)
+    (lengths_differ vs ws (λ same. differ (omega (arith, same))))
     ∙ never (alike_field (seen_field v) (seen_field w))
   where
     never : (b : Bool) → (b && false) ≡ false
@@ -25,7 +26,8 @@ lengths_differ (v ∷ vs) (w ∷ ws) differ =
     never false = refl
 
 -- after the last fields of two lists of one length nothing differs
-pub lists_end : (vs ws : List Field) (i : ℕ) → i ≡ length vs → length vs ≡ length ws → alike_lists (drop i vs) (drop i ws) ≡ true
+pub lists_end : (vs ws : List Field) (i : ℕ) → i ≡ length vs → length vs ≡ length ws
+    → alike_lists (drop i vs) (drop i ws) ≡ true
 lists_end vs ws i at_end long =
     ends (drop i vs) (drop i ws) (length-drop i vs ∙ omega arith) (length-drop i ws ∙ omega arith)
   where

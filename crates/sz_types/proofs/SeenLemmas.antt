@@ -14,7 +14,8 @@ abbrev pub box_of : Box (Unit {0}) Global → Ty → Box Ty Global
 box_of p t = record { ptr = p.ptr; alloc = p.alloc; value = t }
 
 -- the data of a field by the fold
-field_folds : (f : Field) → fold-Field Shape FieldShape (List FieldShape) ty_step field_step fields_step f ≡ seen_field f
+field_folds : (f : Field)
+    → fold-Field Shape FieldShape (List FieldShape) ty_step field_step fields_step f ≡ seen_field f
 field_folds = fold_out-Field Shape FieldShape (List FieldShape) ty_step field_step fields_step
 
 -- fields are seen as the list of what is seen of each
@@ -24,7 +25,8 @@ fields_seen fs =
     ∙ (λ i. map (λ f. field_folds f i) (out-Fields fs).fields.value.items)
 
 -- a type is seen by its one level
-levels : (x : Ty-F Ty Field Fields) → seen (roll-Ty x) ≡ ty_step (map-Ty Ty Field Fields Shape FieldShape (List FieldShape) seen
+levels : (x : Ty-F Ty Field Fields)
+    → seen (roll-Ty x) ≡ ty_step (map-Ty Ty Field Fields Shape FieldShape (List FieldShape) seen
     (fold-Field Shape FieldShape (List FieldShape) ty_step field_step fields_step) seen_fields x)
 levels = fold-roll-Ty Shape FieldShape (List FieldShape) ty_step field_step fields_step
 

@@ -85,7 +85,8 @@ mutual
   fields_apart no_fields no_fields p = λ i. no_fields
   fields_apart no_fields (with_field g gs) p = absurd (let sizes = ap is_pair p in omega arith)
   fields_apart (with_field f fs) no_fields p = absurd (let sizes = ap is_pair p in omega arith)
-  fields_apart (with_field f fs) (with_field g gs) p = λ i. with_field (field_apart f g (ap head p) i) (fields_apart fs gs (ap tail p) i)
+  fields_apart (with_field f fs) (with_field g gs) p =
+      λ i. with_field (field_apart f g (ap head p) i) (fields_apart fs gs (ap tail p) i)
 
 -- how a type is stored
 abbrev pub shape_code : Coded Shape
@@ -129,10 +130,18 @@ abbrev parts_of : Declaration → Parts
 parts_of d = (d.name, (d.kind, (d.limit, (d.indexes, (d.element, d.weight)))))
 
 abbrev made_of : Parts → Declaration
-made_of p = record { name = p.0; kind = p.1.0; limit = p.1.1.0; indexes = p.1.1.1.0; element = p.1.1.1.1.0; weight = p.1.1.1.1.1 }
+made_of p = record {
+  name = p.0;
+  kind = p.1.0;
+  limit = p.1.1.0;
+  indexes = p.1.1.1.0;
+  element = p.1.1.1.1.0;
+  weight = p.1.1.1.1.1;
+}
 
 abbrev parts_code : Coded Parts
-parts_code = coded× coded_letters (coded× kind_code (coded× coded_ℕ (coded× shapes_code (coded× shape_code (coded_option shape_code)))))
+parts_code = coded× coded_letters
+    (coded× kind_code (coded× coded_ℕ (coded× shapes_code (coded× shape_code (coded_option shape_code)))))
 
 -- how a declaration is stored
 abbrev pub declaration_code : Coded Declaration

@@ -24,7 +24,8 @@ converts_to from to = has_row from to || alike from to
 -- the conversions between two basic types, from the first of each pair to the second
 abbrev pub rows : List (Shape × Shape)
 rows =
-    (str, int) ∷ (bytes, int) ∷ (bytes, str) ∷ (str, bytes) ∷ (int, str) ∷ (truth, str) ∷ (truth, int) ∷ (int, time) ∷ (time, int) ∷ []
+    (str, int) ∷ (bytes, int) ∷ (bytes, str) ∷ (str, bytes) ∷ (int, str) ∷ (truth, str) ∷ (truth, int) ∷ (int, time)
+    ∷ (time, int) ∷ []
 
 -- the type is a proto type
 abbrev pub IsProto : Shape → Type 0

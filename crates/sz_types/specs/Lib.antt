@@ -1,4 +1,6 @@
 -- what the public contracts rest on
+pub mod Types
+pub mod Laws
 pub mod Data
 pub mod Seen
 pub mod Same

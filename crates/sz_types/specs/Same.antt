@@ -29,7 +29,8 @@ abbrev mutual
   -- whether two fields agree in name, type, number and encoding
   pub alike_field : FieldShape → FieldShape → Bool
   alike_field (field name s number code) (field other t place way) =
-      pointwise nat_eq name other && alike s t && nat_eq number place && nat_eq (encoding_number code) (encoding_number way)
+      pointwise nat_eq name other && alike s t && nat_eq number place
+      && nat_eq (encoding_number code) (encoding_number way)
 
   -- whether the fields agree one by one, in order
   pub alike_fields : FieldShapes → FieldShapes → Bool

@@ -1,4 +1,5 @@
-//! Plain data that the crates above share: places in a program's text, texts, types, declarations of tables, operators.
+//! Plain data that the crates above share: positions in a program's text, texts, types, declarations of tables, operators; and which
+//! types a value has, as a definition with its laws.
 #![tactic(auto)]
 
 mod comparing;
@@ -16,6 +17,7 @@ mod table;
 mod tables;
 mod text;
 mod ty;
+mod typing_laws;
 mod tys;
 
 pub use comparing::same;
@@ -36,4 +38,5 @@ pub use table::{TableDecl, TableKind};
 pub use tables::TableDecls;
 pub use text::Text;
 pub use ty::{Field, Fields, Ty};
+pub use typing_laws::{compounds_have_the_types_of_their_parts, simple_values_have_one_type};
 pub use tys::Tys;

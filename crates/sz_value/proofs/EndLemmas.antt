@@ -14,7 +14,11 @@ use Rattle.sz_value.proofs.RunLemmas.{IsOwn}
 
 -- the number of pairs of a run and those behind it
 both_counted : (r : Run) (rs : List Run) → length (seen_runs (r ∷ rs)) ≡ length r.pairs.items + length (seen_runs rs)
-both_counted r rs = omega (arith, length-append (seen_pairs r.pairs.items) (seen_runs rs), length-map {B = Datum × Datum} r.pairs.items seen_pair)
+both_counted r rs = omega (
+  arith,
+  length-append (seen_pairs r.pairs.items) (seen_runs rs),
+  length-map {B = Datum × Datum} r.pairs.items seen_pair,
+)
 
 next_taken : (r : Run) (rs : List Run) (i : ℕ) → take (suc i + 1) (r ∷ rs) ≡ r ∷ take (i + 1) rs
 next_taken r rs i = let further : suc i + 1 ≡ suc (i + 1) = omega arith in ap (λ n. take n (r ∷ rs)) further
@@ -43,14 +47,22 @@ end_counted (r ∷ rs) zero n d within ends = omega (arith, ends.0, both_counted
 end_counted (r ∷ rs) (suc i) n d within ends =
     let next = next_taken r rs i in
     let own = subst (AreEnds n) next ends in
-    omega (arith, end_counted rs i r.end d (omega arith) own.1, own.0, both_counted r (take (i + 1) rs), ap (λ t. length (seen_runs t)) next)
+    omega (
+      arith,
+      end_counted rs i r.end d (omega arith) own.1,
+      own.0,
+      both_counted r (take (i + 1) rs),
+      ap (λ t. length (seen_runs t)) next,
+    )
 
 -- a run of as many pairs with the same end in the stead of one
 pub ends_with : (rs : List Run) (i n : ℕ) (d r : Run) → i < length rs → AreEnds n rs → r.end ≡ (get_or rs i d).end
     → length r.pairs.items ≡ length (get_or rs i d).pairs.items → AreEnds n (set rs i r)
 ends_with [] i n d r within ends end count = absurd (omega arith)
-ends_with (s ∷ rs) zero n d r within ends end count = (omega (arith, ends.0, end, count), subst (λ m. AreEnds m rs) (sym end) ends.1)
-ends_with (s ∷ rs) (suc i) n d r within ends end count = (ends.0, ends_with rs i s.end d r (omega arith) ends.1 end count)
+ends_with (s ∷ rs) zero n d r within ends end count =
+    (omega (arith, ends.0, end, count), subst (λ m. AreEnds m rs) (sym end) ends.1)
+ends_with (s ∷ rs) (suc i) n d r within ends end count =
+    (ends.0, ends_with rs i s.end d r (omega arith) ends.1 end count)
 
 ends_above : (rs : List Run) (j n : ℕ) (d : Run) → j < length rs → AreEnds n rs → n ≤ (get_or rs j d).end
 ends_above [] j n d within ends = absurd (omega arith)
@@ -68,10 +80,12 @@ ends_rise (r ∷ rs) n ends (suc i) (suc j) d order within = ends_rise rs r.end 
 -- a place lies in the run before which there are no more pairs than it says, and which ends behind it
 pub pair_there : (rs : List Run) (i place : ℕ) (d : Run) → i < length rs → length (seen_runs (take i rs)) ≤ place
     → place < length (seen_runs (take (i + 1) rs))
-    → slice_get (seen_runs rs) place ≡ slice_get (seen_pairs (get_or rs i d).pairs.items) (place - length (seen_runs (take i rs)))
+    → slice_get (seen_runs rs) place
+    ≡ slice_get (seen_pairs (get_or rs i d).pairs.items) (place - length (seen_runs (take i rs)))
 pair_there [] i place d within low high = absurd (omega arith)
 pair_there (r ∷ rs) zero place d within low high =
-    get_front (seen_pairs r.pairs.items) (seen_runs rs) place (omega (arith, high, both_counted r [], length-map {B = Datum × Datum} r.pairs.items seen_pair))
+    get_front (seen_pairs r.pairs.items) (seen_runs rs) place
+    (omega (arith, high, both_counted r [], length-map {B = Datum × Datum} r.pairs.items seen_pair))
     ∙ ap (slice_get (seen_pairs r.pairs.items)) (omega arith)
 pair_there (r ∷ rs) (suc i) place d within low high =
     let own = length (seen_pairs r.pairs.items) in
@@ -80,7 +94,8 @@ pair_there (r ∷ rs) (suc i) place d within low high =
     let whole = both_counted r (take (i + 1) rs) in
     let next = ap (λ t. length (seen_runs t)) (next_taken r rs i) in
     get_back (seen_pairs r.pairs.items) (seen_runs rs) place (omega (arith, low, front, size))
-    ∙ pair_there rs i (place - own) d (omega arith) (omega (arith, low, front, size)) (omega (arith, high, whole, size, next, low, front))
+    ∙ pair_there rs i (place - own) d (omega arith) (omega (arith, low, front, size))
+    (omega (arith, high, whole, size, next, low, front))
     ∙ ap (slice_get (seen_pairs (get_or rs i d).pairs.items)) (omega (arith, low, front, size))
 
 -- a front with fewer pairs than all runs has fewer runs
@@ -88,7 +103,8 @@ fewer_runs : (rs : List Run) (i : ℕ) → length (seen_runs (take i rs)) < leng
 fewer_runs [] zero fewer = absurd (omega arith)
 fewer_runs [] (suc i) fewer = absurd (omega arith)
 fewer_runs (r ∷ rs) zero fewer = omega arith
-fewer_runs (r ∷ rs) (suc i) fewer = omega (arith, fewer_runs rs i (omega (arith, fewer, both_counted r (take i rs), both_counted r rs)))
+fewer_runs (r ∷ rs) (suc i) fewer =
+    omega (arith, fewer_runs rs i (omega (arith, fewer, both_counted r (take i rs), both_counted r rs)))
 
 -- the end of the run before a place is the number of pairs before it
 pub end_before : (rs : List Run) (i : ℕ) (d : Run) → 0 < i → i ≤ length rs → AreEnds 0 (take i rs)
@@ -100,8 +116,8 @@ end_before rs (suc i) d some within ends =
     let end = end_counted rs i 0 d (omega arith) (subst (λ n. AreEnds 0 (take n rs)) next ends) in
     omega (arith, end, ap (λ n. (get_or rs n d).end) last, ap (λ n. length (seen_runs (take n rs))) next)
 
-low_end : (rs : List Run) (i place : ℕ) → AreEnds 0 rs → i ≤ length rs → ((k : ℕ) (d : Run) → k < i → (get_or rs k d).end ≤ place)
-    → length (seen_runs (take i rs)) ≤ place
+low_end : (rs : List Run) (i place : ℕ) → AreEnds 0 rs → i ≤ length rs
+    → ((k : ℕ) (d : Run) → k < i → (get_or rs k d).end ≤ place) → length (seen_runs (take i rs)) ≤ place
 low_end rs zero place ends within low = omega arith
 low_end [] (suc i) place ends within low = absurd (omega arith)
 low_end (r ∷ rs) (suc i) place ends within low =
@@ -126,7 +142,8 @@ run_parted (r ∷ rs) i place ends some bound low high =
     record { within = within; low = front; high = omega (arith, end, high i r (omega arith) within) }
 
 -- the pair at a place, by that in its run
-pub pair_is : (rs : List Run) (i place before : ℕ) (d : Run) (p : Pair) → i < length rs → before ≡ length (seen_runs (take i rs)) → before ≤ place
+pub pair_is : (rs : List Run) (i place before : ℕ) (d : Run) (p : Pair) → i < length rs
+    → before ≡ length (seen_runs (take i rs)) → before ≤ place
     → place < length (seen_runs (take (i + 1) rs)) → place - before < length (get_or rs i d).pairs.items
     → p ≡ get_or (get_or rs i d).pairs.items (place - before) p → slice_get (seen_runs rs) place ≡ Some (seen_pair p)
 pair_is rs i place before d p within counted low high inside is =
@@ -139,9 +156,11 @@ pair_is rs i place before d p within counted low high inside is =
 
 module _ {k : Datum} {rs : List Run} {i : ℕ} {r : Run} (run : IsOwn k rs i r) where
   -- a run of as many pairs in its stead ends where it ended
-  pub ends_at_run : (made : Run) → AreEnds 0 rs → made.end ≡ r.end → length made.pairs.items ≡ length r.pairs.items → AreEnds 0 (set rs i made)
+  pub ends_at_run : (made : Run) → AreEnds 0 rs → made.end ≡ r.end → length made.pairs.items ≡ length r.pairs.items
+      → AreEnds 0 (set rs i made)
   ends_at_run made ends end count =
-      ends_with rs i 0 r made run.within ends (end ∙ ap (λ s. s.end) run.is) (count ∙ ap (λ s. length s.pairs.items) run.is)
+      ends_with rs i 0 r made run.within ends (end ∙ ap (λ s. s.end) run.is)
+      (count ∙ ap (λ s. length s.pairs.items) run.is)
 
   -- the runs before it end where they ended
   pub front_at_run : (made : Run) → AreEnds 0 rs → AreEnds 0 (take i (set rs i made))

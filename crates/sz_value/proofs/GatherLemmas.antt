@@ -1,4 +1,5 @@
--- Pairs that are put in one after another make the same map in each order that keeps the pairs of one key as they stand.
+-- Pairs that are put in one after another make the same map in each order that keeps the pairs of one key as they
+-- stand.
 use Rattle.std.proofs.Common.{◌≡◌, ◌≢◌, ◌∙◌, ◌⊎◌, inl, inr, Bool, true, false, cond, not, ◌&&◌, Option, Some, None, List, [], ◌∷◌, ◌++◌, map, filter, refl, sym, ap, subst}
 use Rattle.std.specs.List.Sorted.{IsStrictlySortedBy, IsStableBy, ties}
 use Rattle.std.specs.Cmp.{IsStrictWeakOrder}
@@ -17,7 +18,8 @@ use Rattle.sz_value.specs.declared.value.Pair.{Pair}
 use Rattle.sz_value.proofs.MapLemmas.{turned, value_below, below_all, keys_rise, first_hit, first_miss, value_put, value_kept}
 
 -- one pair more after the others
-pub with_one_more : (ps qs : List (Datum × Datum)) (q : Datum × Datum) → with_pairs ps (qs ++ q ∷ []) ≡ with_pair q.0 q.1 (with_pairs ps qs)
+pub with_one_more : (ps qs : List (Datum × Datum)) (q : Datum × Datum)
+    → with_pairs ps (qs ++ q ∷ []) ≡ with_pair q.0 q.1 (with_pairs ps qs)
 with_one_more ps [] q = refl
 with_one_more ps (p ∷ qs) q = with_one_more (with_pair p.0 p.1 ps) qs q
 
@@ -46,14 +48,17 @@ module _ (k : Datum) where
   put_chosen : (p : Datum × Datum) (ps : List (Datum × Datum)) (o : Ordering) → compare k p.0 ≡ o
       → value_at k (with_pair p.0 p.1 ps) ≡ cond (is_eq o) (Some p.1) (value_at k ps)
   put_chosen p ps Less is = value_kept p.0 p.1 k ps (less_apart k p.0 is)
-  put_chosen p ps Equal is = subst (λ d. value_at d (with_pair p.0 p.1 ps) ≡ Some p.1) (sym (compare_ties k p.0 is)) (value_put p.0 p.1 ps)
+  put_chosen p ps Equal is =
+      subst (λ d. value_at d (with_pair p.0 p.1 ps) ≡ Some p.1) (sym (compare_ties k p.0 is)) (value_put p.0 p.1 ps)
   put_chosen p ps Greater is = value_kept p.0 p.1 k ps (greater_apart k p.0 is)
 
   -- at a key stands the value of the last pair that has it
-  value_of_all : (qs ps : List (Datum × Datum)) → value_at k (with_pairs ps qs) ≡ last_value (value_at k ps) (filter has_key qs)
+  value_of_all : (qs ps : List (Datum × Datum))
+      → value_at k (with_pairs ps qs) ≡ last_value (value_at k ps) (filter has_key qs)
   value_of_all [] ps = refl
   value_of_all (q ∷ qs) ps =
-      value_of_all qs (with_pair q.0 q.1 ps) ∙ ap (λ found. last_value found (filter has_key qs)) (put_chosen q ps (compare k q.0) refl)
+      value_of_all qs (with_pair q.0 q.1 ps)
+      ∙ ap (λ found. last_value found (filter has_key qs)) (put_chosen q ps (compare k q.0) refl)
       ∙ by_test (has_key q)
     where
       by_test : (b : Bool) → last_value (cond b (Some q.1) (value_at k ps)) (filter has_key qs)
@@ -76,15 +81,18 @@ module _ (p q : Datum × Datum) (ps qs : List (Datum × Datum)) (left : KeysRise
     where
       by_found : (o : Ordering) → compare p.0 q.0 ≡ o → p.0 ≡ q.0
       by_found Less is =
-          let e = sym (hit_first p ps) ∙ alike p.0 ∙ value_below p.0 (q ∷ qs) (is, below_all p.0 q.0 (keys_of qs) is right.0) in cc
+          let e = sym (hit_first p ps) ∙ alike p.0
+          ∙ value_below p.0 (q ∷ qs) (is, below_all p.0 q.0 (keys_of qs) is right.0) in cc
       by_found Equal is = compare_ties p.0 q.0 is
       by_found Greater is =
           let back = turned p.0 q.0 Greater is in
-          let e = sym (hit_first q qs) ∙ sym (alike q.0) ∙ value_below q.0 (p ∷ ps) (back, below_all q.0 p.0 (keys_of ps) back left.0) in cc
+          let e = sym (hit_first q qs) ∙ sym (alike q.0)
+          ∙ value_below q.0 (p ∷ ps) (back, below_all q.0 p.0 (keys_of ps) back left.0) in cc
 
   same_value : p.0 ≡ q.0 → p.1 ≡ q.1
   same_value same =
-      let e : Some p.1 ≡ Some q.1 = sym (hit_first p ps) ∙ alike p.0 ∙ first_hit p.0 p.1 q.0 q.1 qs (compare_itself p.0 q.0 same) in cc
+      let e : Some p.1 ≡ Some q.1 =
+      sym (hit_first p ps) ∙ alike p.0 ∙ first_hit p.0 p.1 q.0 q.1 qs (compare_itself p.0 q.0 same) in cc
 
   tails_alike : p.0 ≡ q.0 → Alike ps qs
   unfolding IsStrictlySortedBy
@@ -92,7 +100,8 @@ module _ (p q : Datum × Datum) (ps qs : List (Datum × Datum)) (left : KeysRise
     where
       apart_too : k ≢ p.0 → value_at k ps ≡ value_at k qs
       apart_too other =
-          sym (first_miss p.0 p.1 k p.0 p.1 ps other) ∙ alike k ∙ first_miss p.0 p.1 k q.0 q.1 qs (λ e. other (e ∙ sym same))
+          sym (first_miss p.0 p.1 k p.0 p.1 ps other) ∙ alike k
+          ∙ first_miss p.0 p.1 k q.0 q.1 qs (λ e. other (e ∙ sym same))
 
       by_found : (o : Ordering) → compare k p.0 ≡ o → value_at k ps ≡ value_at k qs
       by_found Less is = apart_too (less_apart k p.0 is)
@@ -122,13 +131,16 @@ pub keys_ordered : IsStrictWeakOrder key_less
 keys_ordered = ranks_by compare_total (λ (p : Pair). seen p.key)
 
 -- the pairs of a key, as they are seen
-filter_seen : (k : Datum) (xs : List Pair) → filter (has_key k) (map seen_pair xs) ≡ map seen_pair (filter (λ p. has_key k (seen_pair p)) xs)
+filter_seen : (k : Datum) (xs : List Pair)
+    → filter (has_key k) (map seen_pair xs) ≡ map seen_pair (filter (λ p. has_key k (seen_pair p)) xs)
 filter_seen k [] = refl
 filter_seen k (x ∷ xs) = by_test (has_key k (seen_pair x)) (filter_seen k xs)
   where
-    by_test : (b : Bool) → filter (has_key k) (map seen_pair xs) ≡ map seen_pair (filter (λ p. has_key k (seen_pair p)) xs)
+    by_test : (b : Bool)
+        → filter (has_key k) (map seen_pair xs) ≡ map seen_pair (filter (λ p. has_key k (seen_pair p)) xs)
         → cond b (seen_pair x ∷ filter (has_key k) (map seen_pair xs)) (filter (has_key k) (map seen_pair xs))
-        ≡ map seen_pair (cond b (x ∷ filter (λ p. has_key k (seen_pair p)) xs) (filter (λ p. has_key k (seen_pair p)) xs))
+        ≡ map seen_pair
+        (cond b (x ∷ filter (λ p. has_key k (seen_pair p)) xs) (filter (λ p. has_key k (seen_pair p)) xs))
     by_test true e = ap (λ l. seen_pair x ∷ l) e
     by_test false e = e
 
@@ -136,7 +148,8 @@ filter_seen k (x ∷ xs) = by_test (has_key k (seen_pair x)) (filter_seen k xs)
 neither_less : (v p : Pair) → ties key_less v p ≡ has_key (seen v.key) (seen_pair p)
 neither_less v p = by_found (compare (seen v.key) (seen p.key)) refl
   where
-    by_found : (o : Ordering) → compare (seen v.key) (seen p.key) ≡ o → (not (is_lt o) && not (is_lt (compare (seen p.key) (seen v.key)))) ≡ is_eq o
+    by_found : (o : Ordering) → compare (seen v.key) (seen p.key) ≡ o
+        → (not (is_lt o) && not (is_lt (compare (seen p.key) (seen v.key)))) ≡ is_eq o
     by_found Less is = refl
     by_found Equal is = ap (λ o. not (is_lt o)) (turned (seen v.key) (seen p.key) Equal is)
     by_found Greater is = ap (λ o. not (is_lt o)) (turned (seen v.key) (seen p.key) Greater is)
@@ -150,13 +163,15 @@ some_holder k [] = inr refl
 some_holder k (x ∷ xs) = by_found (compare k (seen x.key)) refl (some_holder k xs)
   where
     by_found : (o : Ordering) → compare k (seen x.key) ≡ o → Holder k ⊎ (filter (has_key k) (map seen_pair xs) ≡ [])
-        → Holder k ⊎ (cond (is_eq o) (seen_pair x ∷ filter (has_key k) (map seen_pair xs)) (filter (has_key k) (map seen_pair xs)) ≡ [])
+        → Holder k ⊎ (cond (is_eq o) (seen_pair x ∷ filter (has_key k) (map seen_pair xs))
+        (filter (has_key k) (map seen_pair xs)) ≡ [])
     by_found Less is rest = rest
     by_found Equal is rest = inl (x, is)
     by_found Greater is rest = rest
 
 module _ (xs ys : List Pair) (stable : IsStableBy key_less xs ys) where
-  found_alike : (v : Pair) → filter (has_key (seen v.key)) (map seen_pair ys) ≡ filter (has_key (seen v.key)) (map seen_pair xs)
+  found_alike : (v : Pair)
+      → filter (has_key (seen v.key)) (map seen_pair ys) ≡ filter (has_key (seen v.key)) (map seen_pair xs)
   found_alike v =
       filter_seen (seen v.key) ys
       ∙ ap (map seen_pair)
@@ -166,13 +181,14 @@ module _ (xs ys : List Pair) (stable : IsStableBy key_less xs ys) where
 
   by_holder : (k : Datum) → Holder k → filter (has_key k) (map seen_pair ys) ≡ filter (has_key k) (map seen_pair xs)
   by_holder k holder =
-      subst (λ d. filter (has_key d) (map seen_pair ys) ≡ filter (has_key d) (map seen_pair xs)) (sym (compare_ties k (seen holder.0.key) holder.1))
-      (found_alike holder.0)
+      subst (λ d. filter (has_key d) (map seen_pair ys) ≡ filter (has_key d) (map seen_pair xs))
+      (sym (compare_ties k (seen holder.0.key) holder.1)) (found_alike holder.0)
 
   keys_alike : (k : Datum) → filter (has_key k) (map seen_pair ys) ≡ filter (has_key k) (map seen_pair xs)
   keys_alike k = by_each (some_holder k xs) (some_holder k ys)
     where
-      by_each : Holder k ⊎ (filter (has_key k) (map seen_pair xs) ≡ []) → Holder k ⊎ (filter (has_key k) (map seen_pair ys) ≡ [])
+      by_each : Holder k ⊎ (filter (has_key k) (map seen_pair xs) ≡ [])
+          → Holder k ⊎ (filter (has_key k) (map seen_pair ys) ≡ [])
           → filter (has_key k) (map seen_pair ys) ≡ filter (has_key k) (map seen_pair xs)
       by_each (inl holder) other = by_holder k holder
       by_each (inr none) (inl holder) = by_holder k holder
@@ -183,4 +199,5 @@ module _ (xs ys : List Pair) (stable : IsStableBy key_less xs ys) where
   unfolding IsStrictlySortedBy
   sorted_alike =
       rising_alike _ _ (all_rise (map seen_pair ys) [] tt) (all_rise (map seen_pair xs) [] tt) (λ k.
-      value_of_all k (map seen_pair ys) [] ∙ ap (last_value None) (keys_alike k) ∙ sym (value_of_all k (map seen_pair xs) []))
+      value_of_all k (map seen_pair ys) [] ∙ ap (last_value None) (keys_alike k)
+      ∙ sym (value_of_all k (map seen_pair xs) []))

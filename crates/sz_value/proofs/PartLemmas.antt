@@ -24,7 +24,8 @@ then_assoc Equal b c = refl
 then_assoc Greater b c = refl
 
 -- pairs compare as lists of pairs do
-pub compare_entries-slice_cmp : (ps qs : List (Datum × Datum)) → compare_entries (entries_of ps) (entries_of qs) ≡ slice_cmp compare_pairs ps qs
+pub compare_entries-slice_cmp : (ps qs : List (Datum × Datum))
+    → compare_entries (entries_of ps) (entries_of qs) ≡ slice_cmp compare_pairs ps qs
 compare_entries-slice_cmp [] [] = refl
 compare_entries-slice_cmp [] (q ∷ qs) = refl
 compare_entries-slice_cmp (p ∷ ps) [] = refl
@@ -38,6 +39,8 @@ data_weight-sum_by [] = refl
 data_weight-sum_by (d ∷ ds) = omega (arith, data_weight-sum_by ds, sum_by-cons full_weight d ds)
 
 -- pairs weigh the sum of the weights of their keys and values
-pub entries_weight-sum_by : (ps : List (Datum × Datum)) → entries_weight (entries_of ps) ≡ sum_by (λ p. full_weight p.0 + full_weight p.1) ps
+pub entries_weight-sum_by : (ps : List (Datum × Datum))
+    → entries_weight (entries_of ps) ≡ sum_by (λ p. full_weight p.0 + full_weight p.1) ps
 entries_weight-sum_by [] = refl
-entries_weight-sum_by (p ∷ ps) = omega (arith, entries_weight-sum_by ps, sum_by-cons (λ q. full_weight q.0 + full_weight q.1) p ps)
+entries_weight-sum_by (p ∷ ps) =
+    omega (arith, entries_weight-sum_by ps, sum_by-cons (λ q. full_weight q.0 + full_weight q.1) p ps)

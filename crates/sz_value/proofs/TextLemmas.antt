@@ -37,7 +37,8 @@ other_fails (b ∷ bs) h = at (λ i k. other_fails bs (i, k)) h.0 h.1
     second true e = e
     second false e = refl
 
-    at : ((i : ℕ) → 128 ≤ slice_index bs i → is_ascii bs ≡ false) → (i : ℕ) → 128 ≤ slice_index (b ∷ bs) i → (nat_lt b 128 && is_ascii bs) ≡ false
+    at : ((i : ℕ) → 128 ≤ slice_index bs i → is_ascii bs ≡ false) → (i : ℕ) → 128 ≤ slice_index (b ∷ bs) i
+        → (nat_lt b 128 && is_ascii bs) ≡ false
     at after zero k = ap (λ a. a && is_ascii bs) (above b k)
     at after (suc i) k = second (nat_lt b 128) (after i k)
 
@@ -61,7 +62,8 @@ ascii_joined s t = list_all-append (λ byte. nat_lt byte 128) s t
 
 -- so is each part
 pub ascii_part : (s : List ℕ) (from count : ℕ) → is_ascii s ≡ true → is_ascii (take count (drop from s)) ≡ true
-ascii_part s from count h = ascii_passes (take count (drop from s)) (IsAscii-take (drop from s) count (IsAscii-drop s from (passes_ascii s h)))
+ascii_part s from count h = ascii_passes (take count (drop from s))
+    (IsAscii-take (drop from s) count (IsAscii-drop s from (passes_ascii s h)))
 
 -- and it may be cut anywhere
 pub ascii_cut : (s : List ℕ) (at : ℕ) → is_ascii s ≡ true → at ≤ length s → IsCharBoundary s at

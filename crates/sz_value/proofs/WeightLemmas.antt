@@ -17,8 +17,8 @@ abbrev pub pairs_weight : List (Datum × Datum) → ℕ
 pairs_weight ps = entries_weight (entries_of ps)
 
 -- at the end of a list all of it is weighed
-weighed : {X : Type 0} (weigh : List X → ℕ) → weigh [] ≡ 0 → (xs : List X) (i total : ℕ) → length xs ≤ i → total < 2 ^ 64
-    → min (total + weigh (drop i xs)) (2 ^ 64 - 1) ≡ min (weigh xs) (2 ^ 64 - 1)
+weighed : {X : Type 0} (weigh : List X → ℕ) → weigh [] ≡ 0 → (xs : List X) (i total : ℕ) → length xs ≤ i
+    → total < 2 ^ 64 → min (total + weigh (drop i xs)) (2 ^ 64 - 1) ≡ min (weigh xs) (2 ^ 64 - 1)
     → total ≡ min (weigh xs) (2 ^ 64 - 1)
 weighed weigh none xs i total done fits so_far =
     let rest = ap weigh (drop_all i xs done) in

@@ -66,7 +66,8 @@ mutual
   entries_apart no_entries (entry k v qs) p = absurd (let sizes = ap is_pair p in omega arith)
   entries_apart (entry k v ps) no_entries p = absurd (let sizes = ap is_pair p in omega arith)
   entries_apart (entry k v ps) (entry l w qs) p =
-      λ i. entry (datum_apart k l (ap head p) i) (datum_apart v w (ap (λ g. head (tail g)) p) i) (entries_apart ps qs (ap (λ g. tail (tail g)) p) i)
+      λ i. entry (datum_apart k l (ap head p) i) (datum_apart v w (ap (λ g. head (tail g)) p) i)
+      (entries_apart ps qs (ap (λ g. tail (tail g)) p) i)
 
 -- how a value is stored
 abbrev pub datum_code : Coded Datum

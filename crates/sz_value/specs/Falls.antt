@@ -36,4 +36,9 @@ nodes_of_both (p ∷ ps) qs = omega (arith, nodes_of_both ps qs)
 
 pub most_le-runs : (runs : List Run) → max (most deep-Run runs) 0 ≤ pairs_nodes (seen_runs runs)
 most_le-runs [] = omega arith
-most_le-runs (run ∷ runs) = omega (arith, nodes_of_both (map seen_pair run.pairs.items) (seen_runs runs), most_le-pairs run.pairs.items, most_le-runs runs)
+most_le-runs (run ∷ runs) = omega (
+  arith,
+  nodes_of_both (map seen_pair run.pairs.items) (seen_runs runs),
+  most_le-pairs run.pairs.items,
+  most_le-runs runs,
+)

@@ -34,5 +34,7 @@ abbrev mutual
   entries_writes (entry k v es) = (hash_writes k ++ hash_writes v) ++ entries_writes es
 
 -- equal values feed a hasher alike
-pub equal_values_hash_alike : (v w : Value) → IsTrue (is_eq (compare (seen v) (seen w))) → hash_writes (seen v) ≡ hash_writes (seen w)
-equal_values_hash_alike v w equal = ap hash_writes (compare_ties (seen v) (seen w) ((Equal-is (compare (seen v) (seen w))).0 equal))
+pub equal_values_hash_alike : (v w : Value) → IsTrue (is_eq (compare (seen v) (seen w)))
+    → hash_writes (seen v) ≡ hash_writes (seen w)
+equal_values_hash_alike v w equal =
+    ap hash_writes (compare_ties (seen v) (seen w) ((Equal-is (compare (seen v) (seen w))).0 equal))

@@ -11,13 +11,15 @@ use Rattle.sz_value.specs.Maps.{value_at, with_pair}
 pub record ComparesByParts : Type 0 where
   pub arrays : (ds es : List Datum) → compare (array (data_of ds)) (array (data_of es)) ≡ slice_cmp compare ds es
   pub tuples : (ds es : List Datum) → compare (tuple (data_of ds)) (tuple (data_of es)) ≡ slice_cmp compare ds es
-  pub maps : (ps qs : List (Datum × Datum)) → compare (mapping (entries_of ps)) (mapping (entries_of qs)) ≡ slice_cmp compare_pairs ps qs
+  pub maps : (ps qs : List (Datum × Datum))
+      → compare (mapping (entries_of ps)) (mapping (entries_of qs)) ≡ slice_cmp compare_pairs ps qs
 
 -- what is made of parts weighs 1 more than all of them, and the parts of a map are its keys and its values
 pub record WeighsItsParts : Type 0 where
   pub arrays : (ds : List Datum) → full_weight (array (data_of ds)) ≡ 1 + sum_by full_weight ds
   pub tuples : (ds : List Datum) → full_weight (tuple (data_of ds)) ≡ 1 + sum_by full_weight ds
-  pub maps : (ps : List (Datum × Datum)) → full_weight (mapping (entries_of ps)) ≡ 1 + sum_by (λ p. full_weight p.0 + full_weight p.1) ps
+  pub maps : (ps : List (Datum × Datum))
+      → full_weight (mapping (entries_of ps)) ≡ 1 + sum_by (λ p. full_weight p.0 + full_weight p.1) ps
 
 -- pairs with the value at the key have it there, keep what they have at each other key, and forget an earlier one
 pub record SetsItsKey (key value : Datum) (pairs : List (Datum × Datum)) : Type 0 where

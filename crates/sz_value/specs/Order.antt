@@ -44,7 +44,8 @@ abbrev mutual
   compare_entries no_entries no_entries = Equal
   compare_entries no_entries (entry l w qs) = Less
   compare_entries (entry k v ps) no_entries = Greater
-  compare_entries (entry k v ps) (entry l w qs) = ordering_then (compare k l) (ordering_then (compare v w) (compare_entries ps qs))
+  compare_entries (entry k v ps) (entry l w qs) =
+      ordering_then (compare k l) (ordering_then (compare v w) (compare_entries ps qs))
 
 -- how two pairs compare: by their keys, and where those are equal by their values
 abbrev pub compare_pairs : Datum × Datum → Datum × Datum → Ordering

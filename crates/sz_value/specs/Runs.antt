@@ -29,7 +29,8 @@ abbrev pub IsRunFor : Datum → ℕ → List Run → Type 0
 IsRunFor key zero [] = ⊤
 IsRunFor key (suc place) [] = ⊥
 IsRunFor key zero (run ∷ runs) = AllByRecursion (λ k. compare key k ≡ Less) (keys_of (seen_runs runs))
-IsRunFor key (suc place) (run ∷ runs) = AllByRecursion (λ k. compare key k ≡ Greater) (keys_of (seen_pairs run.pairs.items)) × IsRunFor key place runs
+IsRunFor key (suc place) (run ∷ runs) =
+    AllByRecursion (λ k. compare key k ≡ Greater) (keys_of (seen_pairs run.pairs.items)) × IsRunFor key place runs
 
 -- how the first key of a run compares with a key; that of a run without pairs comes before all
 abbrev pub head_order : Datum → List Pair → Ordering

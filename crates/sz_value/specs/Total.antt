@@ -83,7 +83,8 @@ mutual
   level_is n (mapping ps) (mapping qs) fits = entries_level_is n ps qs (omega arith)
   level_is n d e fits = refl
 
-  data_level_is : (n : ℕ) (ds es : Data) → data_nodes ds ≤ n → slice_cmp (level n) (parts_of ds) (parts_of es) ≡ compare_data ds es
+  data_level_is : (n : ℕ) (ds es : Data) → data_nodes ds ≤ n
+      → slice_cmp (level n) (parts_of ds) (parts_of es) ≡ compare_data ds es
   data_level_is n no_data no_data fits = refl
   data_level_is n no_data (datum e es) fits = refl
   data_level_is n (datum d ds) no_data fits = refl
@@ -91,26 +92,31 @@ mutual
   data_level_is (suc n) (datum d ds) (datum e es) fits =
       λ i. ordering_then (level_is n d e (omega arith) i) (data_level_is (suc n) ds es (omega arith) i)
 
-  entries_level_is : (n : ℕ) (ps qs : Entries) → entries_nodes ps ≤ n → slice_cmp (level n) (turns_of ps) (turns_of qs) ≡ compare_entries ps qs
+  entries_level_is : (n : ℕ) (ps qs : Entries) → entries_nodes ps ≤ n
+      → slice_cmp (level n) (turns_of ps) (turns_of qs) ≡ compare_entries ps qs
   entries_level_is n no_entries no_entries fits = refl
   entries_level_is n no_entries (entry l w qs) fits = refl
   entries_level_is n (entry k v ps) no_entries fits = refl
   entries_level_is zero (entry k v ps) (entry l w qs) fits = absurd (omega (arith, one_le-nodes k))
   entries_level_is (suc n) (entry k v ps) (entry l w qs) fits =
-      λ i. ordering_then (level_is n k l (omega arith) i) (ordering_then (level_is n v w (omega arith) i) (entries_level_is (suc n) ps qs (omega arith) i))
+      λ i. ordering_then (level_is n k l (omega arith) i)
+      (ordering_then (level_is n v w (omega arith) i) (entries_level_is (suc n) ps qs (omega arith) i))
 
 -- the order of values is total
 pub compare_total : IsTotalOrder compare
 compare_total = record {
   antisymm = λ x y.
       let n = datum_nodes x + datum_nodes y in
-      sym (level_is n x y (omega arith)) ∙ (level_total (suc n)).antisymm x y ∙ ap ordering_reverse (level_is n y x (omega arith));
+      sym (level_is n x y (omega arith)) ∙ (level_total (suc n)).antisymm x y
+      ∙ ap ordering_reverse (level_is n y x (omega arith));
   trans = λ x y z p q.
       let n = datum_nodes x + datum_nodes y in
-      sym (level_is n x z (omega arith)) ∙ (level_total (suc n)).trans x y z (level_is n x y (omega arith) ∙ p) (level_is n y z (omega arith) ∙ q);
+      sym (level_is n x z (omega arith))
+      ∙ (level_total (suc n)).trans x y z (level_is n x y (omega arith) ∙ p) (level_is n y z (omega arith) ∙ q);
   congr = λ x y z p.
       let n = datum_nodes x + datum_nodes y in
-      sym (level_is n x z (omega arith)) ∙ (level_total (suc n)).congr x y z (level_is n x y (omega arith) ∙ p) ∙ level_is n y z (omega arith);
+      sym (level_is n x z (omega arith)) ∙ (level_total (suc n)).congr x y z (level_is n x y (omega arith) ∙ p)
+      ∙ level_is n y z (omega arith);
 }
 
 bool_ties : (b c : Bool) → bool_cmp b c ≡ Equal → b ≡ c

@@ -19,7 +19,8 @@ pub record IsReadTo (bytes : List ℕ) (at i value weight : ℕ) : Type 0 where
 
 from_start : (read : Option (ℕ × List ℕ)) → goes_on 0 1 read ≡ in_64_bits read
 from_start None = refl
-from_start (Some found) = let e : 0 + 1 * found.0 ≡ found.0 = omega arith in ap (λ (n : ℕ). Some (n % 2 ^ 64, found.1)) e
+from_start (Some found) = let e : 0 + 1 * found.0 ≡ found.0 = omega arith in
+    ap (λ (n : ℕ). Some (n % 2 ^ 64, found.1)) e
 
 pub starts_read : (bytes : List ℕ) (at : ℕ) → IsReadTo bytes at 0 0 1
 unfolding varint_at
@@ -30,7 +31,8 @@ starts_read bytes at = record {
 -- what one byte makes of the number after it
 byte_read : (bytes : List ℕ) (at i : ℕ) → i < 10 → at + i < length bytes
     → number_at (10 - i) (drop (at + i) bytes) ≡ cond (ltb (get_or bytes (at + i) 0) 128)
-    (Some (get_or bytes (at + i) 0, drop (at + i + 1) bytes)) (low_bits (get_or bytes (at + i) 0) (number_at (10 - (i + 1)) (drop (at + (i + 1)) bytes)))
+    (Some (get_or bytes (at + i) 0, drop (at + i + 1) bytes))
+    (low_bits (get_or bytes (at + i) 0) (number_at (10 - (i + 1)) (drop (at + (i + 1)) bytes)))
 unfolding number_at
 byte_read bytes at i lt inside =
     let k : 10 - i ≡ suc (10 - (i + 1)) = omega arith in
@@ -47,52 +49,61 @@ last_value value weight b lt =
     let m : b % 128 ≡ b = mod-eq_of_lt lt in
     rw (m, add-mod-mod, e) refl
 
-pub last_byte : {bytes : List ℕ} {at i value weight : ℕ} → IsReadTo bytes at i value weight → i < 10 → at + i < length bytes
-    → get_or bytes (at + i) 0 < 128 → varint_at (drop at bytes) ≡ Some (with_byte value weight (get_or bytes (at + i) 0), drop (at + i + 1) bytes)
+pub last_byte : {bytes : List ℕ} {at i value weight : ℕ} → IsReadTo bytes at i value weight → i < 10
+    → at + i < length bytes → get_or bytes (at + i) 0 < 128
+    → varint_at (drop at bytes) ≡ Some (with_byte value weight (get_or bytes (at + i) 0), drop (at + i + 1) bytes)
 last_byte {bytes} {at} {i} {value} {weight} h lt inside small =
     let b = get_or bytes (at + i) 0 in
     let test : ltb b 128 ≡ true = lt-ltb _ _ small in
     let read : number_at (10 - i) (drop (at + i) bytes) ≡ Some (b, drop (at + i + 1) bytes) =
     byte_read bytes at i lt inside
-    ∙ ap (λ (t : Bool). cond t (Some (b, drop (at + i + 1) bytes)) (low_bits b (number_at (10 - (i + 1)) (drop (at + (i + 1)) bytes)))) test in
-    sym h.rest ∙ ap (goes_on value weight) read ∙ ap (λ (n : ℕ). Some (n, drop (at + i + 1) bytes)) (last_value value weight (get_or bytes (at + i) 0) small)
+    ∙ ap (λ (t : Bool). cond t (Some (b, drop (at + i + 1) bytes))
+    (low_bits b (number_at (10 - (i + 1)) (drop (at + (i + 1)) bytes)))) test in
+    sym h.rest ∙ ap (goes_on value weight) read
+    ∙ ap (λ (n : ℕ). Some (n, drop (at + i + 1) bytes)) (last_value value weight (get_or bytes (at + i) 0) small)
 
 more_value : (value weight b n : ℕ) → 128 ≤ b → b < 256
-    → (value + weight * (b - 128 + 128 * n)) % 2 ^ 64 ≡ (with_byte value weight b + (weight * 128) % 2 ^ 64 * n) % 2 ^ 64
+    → (value + weight * (b - 128 + 128 * n)) % 2 ^ 64
+    ≡ (with_byte value weight b + (weight * 128) % 2 ^ 64 * n) % 2 ^ 64
 more_value value weight b n low high =
     let m : b % 128 ≡ b - 128 = omega arith in
     let e : value + weight * (b - 128 + 128 * n) ≡ (value + (b - 128) * weight) + weight * 128 * n = grind arith in
-    let right : (with_byte value weight b + (weight * 128) % 2 ^ 64 * n) % 2 ^ 64 ≡ ((value + (b - 128) * weight) + weight * 128 * n) % 2 ^ 64 =
+    let right : (with_byte value weight b + (weight * 128) % 2 ^ 64 * n) % 2 ^ 64
+    ≡ ((value + (b - 128) * weight) + weight * 128 * n) % 2 ^ 64 =
     rw (m, add-mod-mod, mod-add-mod)
     (sym (add-mod-mod (value + (b - 128) * weight) ((weight * 128) % 2 ^ 64 * n) (2 ^ 64))
-    ∙ rw (mul-mod_first (weight * 128) n (2 ^ 64)) (add-mod-mod (value + (b - 128) * weight) (weight * 128 * n) (2 ^ 64))) in
+    ∙ rw (mul-mod_first (weight * 128) n (2 ^ 64))
+    (add-mod-mod (value + (b - 128) * weight) (weight * 128 * n) (2 ^ 64))) in
     ap (λ (k : ℕ). k % 2 ^ 64) e ∙ sym right
 
 more_read : (value weight b : ℕ) (read : Option (ℕ × List ℕ)) → 128 ≤ b → b < 256
     → goes_on value weight (low_bits b read) ≡ goes_on (with_byte value weight b) ((weight * 128) % 2 ^ 64) read
 more_read value weight b None low high = refl
-more_read value weight b (Some found) low high = ap (λ (n : ℕ). Some (n, found.1)) (more_value value weight b found.0 low high)
+more_read value weight b (Some found) low high =
+    ap (λ (n : ℕ). Some (n, found.1)) (more_value value weight b found.0 low high)
 
-pub more_bytes : {bytes : List ℕ} {at i value weight : ℕ} → IsReadTo bytes at i value weight → i < 10 → at + i < length bytes
-    → 128 ≤ get_or bytes (at + i) 0 → get_or bytes (at + i) 0 < 256
+pub more_bytes : {bytes : List ℕ} {at i value weight : ℕ} → IsReadTo bytes at i value weight → i < 10
+    → at + i < length bytes → 128 ≤ get_or bytes (at + i) 0 → get_or bytes (at + i) 0 < 256
     → IsReadTo bytes at (i + 1) (with_byte value weight (get_or bytes (at + i) 0)) ((weight * 128) % 2 ^ 64)
 more_bytes {bytes} {at} {i} {value} {weight} h lt inside low high =
     let b = get_or bytes (at + i) 0 in
     let after = number_at (10 - (i + 1)) (drop (at + (i + 1)) bytes) in
     let test : ltb b 128 ≡ false = le-ltb _ _ low in
     let read : number_at (10 - i) (drop (at + i) bytes) ≡ low_bits b after =
-    byte_read bytes at i lt inside ∙ ap (λ (t : Bool). cond t (Some (b, drop (at + i + 1) bytes)) (low_bits b after)) test in
+    byte_read bytes at i lt inside
+    ∙ ap (λ (t : Bool). cond t (Some (b, drop (at + i + 1) bytes)) (low_bits b after)) test in
     record { rest = sym (more_read value weight b after low high) ∙ ap (goes_on value weight) (sym read) ∙ h.rest }
 
-pub bytes_end : {bytes : List ℕ} {at i value weight : ℕ} → IsReadTo bytes at i value weight → i < 10 → length bytes ≤ at + i
-    → varint_at (drop at bytes) ≡ None
+pub bytes_end : {bytes : List ℕ} {at i value weight : ℕ} → IsReadTo bytes at i value weight → i < 10
+    → length bytes ≤ at + i → varint_at (drop at bytes) ≡ None
 unfolding number_at
 bytes_end {bytes} {at} {i} {value} {weight} h lt past =
     let k : 10 - i ≡ suc (10 - (i + 1)) = omega arith in
     let nothing : number_at (10 - i) (drop (at + i) bytes) ≡ None = rw (k, drop_of_length-le bytes past) refl in
     sym h.rest ∙ ap (goes_on value weight) nothing
 
-pub too_long : {bytes : List ℕ} {at i value weight : ℕ} → IsReadTo bytes at i value weight → 10 ≤ i → varint_at (drop at bytes) ≡ None
+pub too_long : {bytes : List ℕ} {at i value weight : ℕ} → IsReadTo bytes at i value weight → 10 ≤ i
+    → varint_at (drop at bytes) ≡ None
 unfolding number_at
 too_long {bytes} {at} {i} {value} {weight} h le =
     let k : 10 - i ≡ 0 = omega arith in

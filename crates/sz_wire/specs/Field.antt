@@ -22,7 +22,8 @@ bytes_at n bytes = if nat_lt (length bytes) n then None else Some (take n bytes,
 
 -- the number that so many bytes at the front are, the low one first
 unfoldable pub fixed_at : Width → List ℕ → Option (ℕ × List ℕ)
-fixed_at w bytes = option_map (λ (found : List ℕ × List ℕ). (from_le_bytes w found.0, found.1)) (bytes_at (byte_len w) bytes)
+fixed_at w bytes =
+    option_map (λ (found : List ℕ × List ℕ). (from_le_bytes w found.0, found.1)) (bytes_at (byte_len w) bytes)
 
 -- a length as a varint, and that many bytes
 unfoldable pub span_at : List ℕ → Option (List ℕ × List ℕ)
@@ -47,15 +48,17 @@ opened ends levels number bytes = if levels == 0 then None else ends (levels - 1
 -- what follows the value after a key
 unfoldable pub value_end : (ℕ → ℕ → List ℕ → Option (List ℕ)) → ℕ → Key → List ℕ → Option (List ℕ)
 value_end ends levels key bytes =
-    if key.wire == 3 then opened ends levels key.number bytes else option_map (λ (found : Content × List ℕ). found.1) (plain_at key.wire bytes)
+    if key.wire == 3 then opened ends levels key.number bytes
+    else option_map (λ (found : Content × List ℕ). found.1) (plain_at key.wire bytes)
 
--- what follows the end of the group with this number, of whose fields the first begins here. So many levels of groups may open
--- inside it. Each turn takes a byte at least, so no more turns are needed than there are bytes.
+-- what follows the end of the group with this number, of whose fields the first begins here. So many levels of groups
+-- may open inside it. Each turn takes a byte at least, so no more turns are needed than there are bytes.
 unfoldable pub group_end : ℕ → ℕ → ℕ → List ℕ → Option (List ℕ)
 group_end zero levels number bytes = None
 group_end (suc turns) levels number bytes = option_and_then (λ (key : Key × List ℕ).
     if key.0.wire == 4 then (if key.0.number == number then Some key.1 else None)
-    else option_and_then (group_end turns levels number) (value_end (group_end turns) levels key.0 key.1)) (key_at bytes)
+    else option_and_then (group_end turns levels number)
+    (value_end (group_end turns) levels key.0 key.1)) (key_at bytes)
 
 -- the greatest level of a message or a group; the outer message has level 1
 abbrev pub deepest : ℕ
@@ -64,7 +67,8 @@ deepest = 100
 -- what the field after a key holds, in a message of this level, and what follows it
 unfoldable pub value_at : ℕ → Key → List ℕ → Option (Content × List ℕ)
 value_at depth key bytes =
-    if key.wire == 3 then option_map (λ rest. (group, rest)) (opened (group_end (length bytes)) (deepest - depth) key.number bytes)
+    if key.wire == 3
+    then option_map (λ rest. (group, rest)) (opened (group_end (length bytes)) (deepest - depth) key.number bytes)
     else plain_at key.wire bytes
 
 -- a field of a message: its number, and what it holds
@@ -75,7 +79,8 @@ pub record Field : Type 0 where
 -- the field at the front, in a message of this level, and what follows it
 unfoldable pub field_at : ℕ → List ℕ → Option (Field × List ℕ)
 field_at depth bytes = option_and_then (λ (key : Key × List ℕ). option_map
-    (λ (found : Content × List ℕ). (record { number = key.0.number; content = found.0 }, found.1)) (value_at depth key.0 key.1)) (key_at bytes)
+    (λ (found : Content × List ℕ). (record { number = key.0.number; content = found.0 }, found.1))
+    (value_at depth key.0 key.1)) (key_at bytes)
 
 -- what a field that was found in these bytes holds
 abbrev pub content_in : List ℕ → WireKind → Content

@@ -37,7 +37,8 @@ default_kept name rows = go (has_row name rows)
     go true = refl
     go false = refl
 
-pub no_defaults : (names : List Text) (rows : List Row) → defaults_fault rows (map option_rule names ++ name_rule ∷ []) ≡ []
+pub no_defaults : (names : List Text) (rows : List Row)
+    → defaults_fault rows (map option_rule names ++ name_rule ∷ []) ≡ []
 unfolding defaults_fault
 no_defaults [] rows = go (has_row (codes "name") rows)
   where
@@ -46,7 +47,8 @@ no_defaults [] rows = go (has_row (codes "name") rows)
     go false = refl
 no_defaults (n ∷ ns) rows = rw (no_default n rows, default_kept n rows) (no_defaults ns rows)
 
-pub defaults_kept : (names : List Text) (rows : List Row) → fold with_default rows (map option_rule names ++ name_rule ∷ []) ≡ rows
+pub defaults_kept : (names : List Text) (rows : List Row)
+    → fold with_default rows (map option_rule names ++ name_rule ∷ []) ≡ rows
 defaults_kept [] rows = go (has_row (codes "name") rows)
   where
     go : (b : Bool) → (if b then rows else rows) ≡ rows
@@ -62,18 +64,21 @@ no_parts_fault [] [] (k ∷ ks) d e h = absurd (cc)
 no_parts_fault [] (k ∷ ks) c d e h = absurd (cc)
 no_parts_fault (k ∷ ks) b c d e h = absurd (cc)
 
-pub all_nil : (a b c d e : Kinds) → a ≡ [] → b ≡ [] → c ≡ [] → d ≡ [] → e ≡ [] → or_else a (or_else b (or_else c (or_else d e))) ≡ []
+pub all_nil : (a b c d e : Kinds) → a ≡ [] → b ≡ [] → c ≡ [] → d ≡ [] → e ≡ []
+    → or_else a (or_else b (or_else c (or_else d e))) ≡ []
 all_nil a b c d e p q r s t = rw (p, q, r, s, t) refl
 
 -- the walk over all words
 abbrev pub whole_walk : List Text → Walk
 whole_walk words = walk rules [] nothing_held words
 
-pub no_fault : (words : List Text) (parts : Parts) → Ends words (walk_from nothing_held) (Some parts) → fault_of asked_app words ≡ []
+pub no_fault : (words : List Text) (parts : Parts) → Ends words (walk_from nothing_held) (Some parts)
+    → fault_of asked_app words ≡ []
 no_fault words parts ends =
     all_nil _ _ _ _ _ ends.0 (ap (entered_fault (built asked_app)) ends.1) ends.2.settles
     (no_defaults option_names (settled rules (whole_walk words).held).rows)
-    (ap (λ stop. check_fault shape (finished rules (whole_walk words).held) (is_some (entered (built asked_app) stop))) ends.1)
+    (ap (λ stop. check_fault shape (finished rules (whole_walk words).held)
+    (is_some (entered (built asked_app) stop))) ends.1)
 
 pub found_parts : (words : List Text) (app : App) (m : ArgMatches) → app ≡ asked_app → dashes_fit false words ≡ true
     → (is_simple_and_free app ≡ true → fault_of app words ≡ []) → HasMatchesOf app words m
@@ -92,7 +97,8 @@ found_parts words app m is fit fault has = go (parts_of words) refl (all_words w
         absurd (ends (no_parts_fault (walk_fault shape [] (walk_from nothing_held) words)
         (entered_fault (built asked_app) (whole_walk words).stopped) (settle_fault rules false (whole_walk words).held)
         (defaults_fault (settled rules (whole_walk words).held).rows rules)
-        (check_fault shape (finished rules (whole_walk words).held) (is_some (entered (built asked_app) (whole_walk words).stopped)))
+        (check_fault shape (finished rules (whole_walk words).held)
+        (is_some (entered (built asked_app) (whole_walk words).stopped)))
         clean))
     go (Some parts) e ends =
         let rows = rows_are ∙ defaults_kept option_names (settled rules (whole_walk words).held).rows in (
@@ -100,19 +106,23 @@ found_parts words app m is fit fault has = go (parts_of words) refl (all_words w
           e,
           record {
             options = λ name known.
-                ap (λ o. unwrap_or o []) (raw_values-rows (found_of m) name) ∙ ap (values_at name) rows ∙ ends.2.found.options name known;
-            names = ap (λ o. unwrap_or o []) (raw_values-rows (found_of m) (codes "name")) ∙ ap (values_at (codes "name")) rows ∙ ends.2.found.names;
+                ap (λ o. unwrap_or o []) (raw_values-rows (found_of m) name) ∙ ap (values_at name) rows
+                ∙ ends.2.found.options name known;
+            names = ap (λ o. unwrap_or o []) (raw_values-rows (found_of m) (codes "name"))
+                ∙ ap (values_at (codes "name")) rows ∙ ends.2.found.names;
           },
         )
 
 pub failed : (words : List Text) (app : App) (error : Error) → app ≡ asked_app → dashes_fit false words ≡ true
-    → (is_simple_and_free app ≡ true → HasKind (fault_of app words) error) → (kind_of error ≡ kind.OutOfMemory → ⊥) → parts_of words ≡ None
+    → (is_simple_and_free app ≡ true → HasKind (fault_of app words) error) → (kind_of error ≡ kind.OutOfMemory → ⊥)
+    → parts_of words ≡ None
 failed words app error is fit fault memory = go (parts_of words) refl (all_words words fit)
   where
     kinds : HasKind (fault_of asked_app words) error
     kinds = subst (λ a. is_simple_and_free a ≡ true → HasKind (fault_of a words) error) is fault is_free
 
-    go : (given : Option Parts) → parts_of words ≡ given → Ends words (walk_from nothing_held) given → parts_of words ≡ None
+    go : (given : Option Parts) → parts_of words ≡ given → Ends words (walk_from nothing_held) given
+        → parts_of words ≡ None
     go None e ends = e
     go (Some parts) e ends = elim (subst (λ ks. HasKind ks error) (no_fault words parts ends) kinds) [
       | inl none ↦ absurd (memory none)

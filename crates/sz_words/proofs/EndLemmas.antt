@@ -35,13 +35,14 @@ unfolding walk_fault
 passed word words w None fault ends = rw fault ends
 passed word words w (Some parts) fault ends = (rw fault ends.0, ends.1, ends.2)
 
-pub stepped : (word : Text) (words : List Text) (w next : Walk) (parts : Option Parts) → NoFault w word → walked rules [] w word ≡ next
-    → Ends words next parts → Ends (word ∷ words) w parts
-stepped word words w next parts fault is ends = passed word words w parts fault (subst (λ v. Ends words v parts) (sym is) ends)
+pub stepped : (word : Text) (words : List Text) (w next : Walk) (parts : Option Parts) → NoFault w word
+    → walked rules [] w word ≡ next → Ends words next parts → Ends (word ∷ words) w parts
+stepped word words w next parts fault is ends =
+    passed word words w parts fault (subst (λ v. Ends words v parts) (sym is) ends)
 
 -- a word with one
-pub stopped : (word : Text) (words : List Text) (w : Walk) (k : ErrorKind) (ks : Kinds) → turn_fault shape [] w word ≡ k ∷ ks
-    → Ends (word ∷ words) w None
+pub stopped : (word : Text) (words : List Text) (w : Walk) (k : ErrorKind) (ks : Kinds)
+    → turn_fault shape [] w word ≡ k ∷ ks → Ends (word ∷ words) w None
 unfolding walk_fault
 stopped word words w k ks fault =
     let some : (rest : Kinds) → k ∷ rest ≡ [] → ⊥ = λ rest e. absurd (cc) in
@@ -51,7 +52,8 @@ stopped word words w k ks fault =
 pub not_end : (word : Text) → is_name word ≡ true → bytes_eq word (codes "--") ≡ false
 not_end word e = (name-NoOption word e).no_end
 
-pub fit_name : (word : Text) (words : List Text) → is_name word ≡ true → dashes_fit false (word ∷ words) ≡ true → dashes_fit false words ≡ true
+pub fit_name : (word : Text) (words : List Text) → is_name word ≡ true → dashes_fit false (word ∷ words) ≡ true
+    → dashes_fit false words ≡ true
 fit_name word words e fit = rw (not_end word e, e) at fit
 
 -- a word that is no name, where no `--` stands before it
@@ -60,7 +62,8 @@ or_is_false false false e = (refl, refl)
 or_is_false false true e = absurd (true≢false e)
 or_is_false true b e = absurd (true≢false e)
 
-pub undashed : (word : Text) (words : List Text) → dashes_fit true (word ∷ words) ≡ true → (is_dashed word ≡ false) × (dashes_fit false words ≡ true)
+pub undashed : (word : Text) (words : List Text) → dashes_fit true (word ∷ words) ≡ true
+    → (is_dashed word ≡ false) × (dashes_fit false words ≡ true)
 undashed word words fit = go (is_dashed word) refl
   where
     go : (b : Bool) → is_dashed word ≡ b → (is_dashed word ≡ false) × (dashes_fit false words ≡ true)
@@ -81,7 +84,8 @@ long_word word words no_name no_end fit = go (is_long word) refl
     go false e = let bad : false ≡ true = rw (no_end, no_name, e) at fit in absurd (true≢false (sym bad))
 
 -- an option without a value at the end
-pub no_value : (seen : Held) (name : Text) → is_option name ≡ true → seen.pending ≡ Some (name, []) → Ends [] (at seen (option name) false) None
+pub no_value : (seen : Held) (name : Text) → is_option name ≡ true → seen.pending ≡ Some (name, [])
+    → Ends [] (at seen (option name) false) None
 unfolding walk_fault
 no_value seen name known pending =
     let some : (rest : Kinds) → kind.InvalidValue ∷ rest ≡ [] → ⊥ = λ rest e. absurd (cc) in
@@ -101,16 +105,19 @@ whole p text e = ap (λ n. take n text) (none_before p text e) ∙ take_all (len
 -- how the walks over these words end, from each state that the words before can leave
 pub record AllEnd (words : List Text) : Type 0 where
   pub ready : (seen : Held) (q : Waiting) (parts : Parts) → is_quiet q ≡ true → Holds seen parts
-      → (parts.ended ≡ false → dashes_fit false words ≡ true) → Ends words (at seen q parts.ended) (parts_with (ready parts) words)
+      → (parts.ended ≡ false → dashes_fit false words ≡ true)
+      → Ends words (at seen q parts.ended) (parts_with (ready parts) words)
   pub awaiting : (seen : Held) (name : Text) (parts : Parts) → is_option name ≡ true → parts.ended ≡ false
       → seen.pending ≡ Some (name, []) → Found seen.rows parts → dashes_fit true words ≡ true
       → Ends words (at seen (option name) false) (parts_with (awaits name parts) words)
 
 -- after an option's value
-pub value_ends : (words : List Text) → AllEnd words → (seen : Held) (parts : Parts) → parts.ended ≡ false → Holds seen parts
-    → dashes_fit false words ≡ true → Ends words (at seen idle false) (parts_with (ready parts) words)
+pub value_ends : (words : List Text) → AllEnd words → (seen : Held) (parts : Parts) → parts.ended ≡ false
+    → Holds seen parts → dashes_fit false words ≡ true
+    → Ends words (at seen idle false) (parts_with (ready parts) words)
 value_ends words more seen parts before holds fit =
-    subst (λ t. Ends words (at seen idle t) (parts_with (ready parts) words)) before (more.ready seen idle parts refl holds (λ _. fit))
+    subst (λ t. Ends words (at seen idle t) (parts_with (ready parts) words)) before
+    (more.ready seen idle parts refl holds (λ _. fit))
 
 -- a word in a list of words, where no option waits and no `--` stood before
 pub record Before (word : Text) (words : List Text) (seen : Held) (q : Waiting) (parts : Parts) : Type 0 where
@@ -120,12 +127,15 @@ pub record Before (word : Text) (words : List Text) (seen : Held) (q : Waiting) 
   pub before : parts.ended ≡ false
 
 -- a word of an option with its value
-pub valued : (word : Text) (words : List Text) (seen : Held) (q : Waiting) (parts : Parts) (name value : Text) → Before word words seen q parts
+pub valued : (word : Text) (words : List Text) (seen : Held) (q : Waiting) (parts : Parts) (name value : Text)
+    → Before word words seen q parts
     → dashes_fit false words ≡ true → IsLong word name (Some value) → (b : Bool) → is_option name ≡ b
-    → Ends (word ∷ words) (at seen q false) (parts_with (if is_option name then ready (with_option name value parts) else refused) words)
+    → Ends (word ∷ words) (at seen q false)
+    (parts_with (if is_option name then ready (with_option name value parts) else refused) words)
 valued word words seen q parts name value h fit l true known =
     rw known (stepped word words (at seen q false) (at (after_option name value seen) idle false) _
-    (value_fault seen q word name value h.quiet l known h.holds.settles) (value_walked seen q word name value h.quiet l known)
+    (value_fault seen q word name value h.quiet l known h.holds.settles)
+    (value_walked seen q word name value h.quiet l known)
     (value_ends words h.more (after_option name value seen) (with_option name value parts) h.before
     (option_holds name value seen parts known h.holds) fit))
 valued word words seen q parts name value h fit l false unknown =
@@ -133,7 +143,8 @@ valued word words seen q parts name value h fit l false unknown =
     rw unknown (stopped word words (at seen q false) kind.UnknownArgument fault.0 fault.1)
 
 -- a word of an option whose value is to come
-pub unvalued : (word : Text) (words : List Text) (seen : Held) (q : Waiting) (parts : Parts) (name : Text) → Before word words seen q parts
+pub unvalued : (word : Text) (words : List Text) (seen : Held) (q : Waiting) (parts : Parts) (name : Text)
+    → Before word words seen q parts
     → dashes_fit true words ≡ true → IsLong word name None → (b : Bool) → is_option name ≡ b
     → Ends (word ∷ words) (at seen q false) (parts_with (if is_option name then awaits name parts else refused) words)
 unvalued word words seen q parts name h fit l true known =
@@ -144,9 +155,9 @@ unvalued word words seen q parts name h fit l false unknown =
     let fault = unknown_fault seen q word name None h.quiet l unknown in
     rw unknown (stopped word words (at seen q false) kind.UnknownArgument fault.0 fault.1)
 
-pub by_equals : (word : Text) (words : List Text) (seen : Held) (q : Waiting) (parts : Parts) → Before word words seen q parts
-    → dashes_fit (not (has_equals (drop 2 word))) words ≡ true → is_long word ≡ true → bytes_eq word (codes "--") ≡ false
-    → (b : Bool) → has_equals (drop 2 word) ≡ b
+pub by_equals : (word : Text) (words : List Text) (seen : Held) (q : Waiting) (parts : Parts)
+    → Before word words seen q parts → dashes_fit (not (has_equals (drop 2 word))) words ≡ true → is_long word ≡ true
+    → bytes_eq word (codes "--") ≡ false → (b : Bool) → has_equals (drop 2 word) ≡ b
     → Ends (word ∷ words) (at seen q false) (parts_with (with_long (drop 2 word) parts) words)
 by_equals word words seen q parts h fit long no_end true e =
     let name = before_first is_equals (drop 2 word) in
@@ -155,24 +166,33 @@ by_equals word words seen q parts h fit long no_end true e =
     rw e (valued word words seen q parts name value h (rw e at fit) l (is_option name) refl)
 by_equals word words seen q parts h fit long no_end false e =
     let all : before_first is_equals (drop 2 word) ≡ drop 2 word = whole is_equals (drop 2 word) e in
-    let l : IsLong word (drop 2 word) None = record { no_end = no_end; long = rw (e, all) at (long-is word long no_end) } in
+    let l : IsLong word (drop 2 word) None = record {
+      no_end = no_end;
+      long = rw (e, all) at (long-is word long no_end);
+    } in
     rw e (unvalued word words seen q parts (drop 2 word) h (rw e at fit) l (is_option (drop 2 word)) refl)
 
-pub by_end : (word : Text) (words : List Text) (seen : Held) (q : Waiting) (parts : Parts) → Before word words seen q parts
+pub by_end : (word : Text) (words : List Text) (seen : Held) (q : Waiting) (parts : Parts)
+    → Before word words seen q parts
     → dashes_fit false (word ∷ words) ≡ true → is_name word ≡ false → (b : Bool) → bytes_eq word (codes "--") ≡ b
     → Ends (word ∷ words) (at seen q false)
     (parts_with (if bytes_eq word (codes "--") then ready (record parts { ended = true })
     else if is_long word then with_long (drop 2 word) parts else refused) words)
 by_end word words seen q parts h fit no_name true e =
     let holds : Holds seen (record parts { ended = true }) =
-    record { settles = h.holds.settles; found = record { options = h.holds.found.options; names = h.holds.found.names } } in
-    rw e (stepped word words (at seen q false) (at seen q true) _ (end_fault seen q word h.quiet e) (end_walked seen q word h.quiet e)
+    record {
+      settles = h.holds.settles;
+      found = record { options = h.holds.found.options; names = h.holds.found.names };
+    } in
+    rw e (stepped word words (at seen q false) (at seen q true) _ (end_fault seen q word h.quiet e)
+    (end_walked seen q word h.quiet e)
     (h.more.ready seen q (record parts { ended = true }) h.quiet holds (λ bad. absurd (true≢false bad))))
 by_end word words seen q parts h fit no_name false e =
     let l = long_word word words no_name e fit in
     rw (e, l.long) (by_equals word words seen q parts h l.fit l.long e (has_equals (drop 2 word)) refl)
 
-pub by_name : (word : Text) (words : List Text) → AllEnd words → (seen : Held) (q : Waiting) (parts : Parts) → is_quiet q ≡ true → Holds seen parts
+pub by_name : (word : Text) (words : List Text) → AllEnd words → (seen : Held) (q : Waiting) (parts : Parts)
+    → is_quiet q ≡ true → Holds seen parts
     → (parts.ended ≡ false → dashes_fit false (word ∷ words) ≡ true) → (b : Bool) → (parts.ended || is_name word) ≡ b
     → Ends (word ∷ words) (at seen q parts.ended) (parts_with (with_word word parts) words)
 by_name word words more seen q parts quiet holds fits true e =
@@ -191,8 +211,9 @@ by_name word words more seen q parts quiet holds fits false e =
     (subst (λ r. Ends (word ∷ words) (at seen q false) (parts_with r words)) (sym is)
     (by_end word words seen q parts h (fits no.0) no.1 (bytes_eq word (codes "--")) refl))
 
-pub by_value : (word : Text) (words : List Text) → AllEnd words → (seen : Held) (name : Text) (parts : Parts) → is_option name ≡ true
-    → parts.ended ≡ false → seen.pending ≡ Some (name, []) → Found seen.rows parts → dashes_fit true (word ∷ words) ≡ true
+pub by_value : (word : Text) (words : List Text) → AllEnd words → (seen : Held) (name : Text) (parts : Parts)
+    → is_option name ≡ true → parts.ended ≡ false → seen.pending ≡ Some (name, []) → Found seen.rows parts
+    → dashes_fit true (word ∷ words) ≡ true
     → Ends (word ∷ words) (at seen (option name) false) (parts_with (awaits name parts) (word ∷ words))
 by_value word words more seen name parts known before pending found fit =
     let no = undashed word words fit in
@@ -211,12 +232,15 @@ all_end [] = record {
   awaiting = λ seen name parts known before pending found fit. no_value seen name known pending;
 }
 all_end (word ∷ words) = record {
-  ready = λ seen q parts quiet holds fits. by_name word words (all_end words) seen q parts quiet holds fits (parts.ended || is_name word) refl;
-  awaiting = λ seen name parts known before pending found fit. by_value word words (all_end words) seen name parts known before pending found fit;
+  ready = λ seen q parts quiet holds fits.
+      by_name word words (all_end words) seen q parts quiet holds fits (parts.ended || is_name word) refl;
+  awaiting = λ seen name parts known before pending found fit.
+      by_value word words (all_end words) seen name parts known before pending found fit;
 }
 
 pub nothing_holds : Holds nothing_held no_parts
 nothing_holds = record { settles = refl; found = record { options = λ name e. refl; names = refl } }
 
-pub all_words : (words : List Text) → dashes_fit false words ≡ true → Ends words (walk_from nothing_held) (parts_of words)
+pub all_words : (words : List Text) → dashes_fit false words ≡ true
+    → Ends words (walk_from nothing_held) (parts_of words)
 all_words words fit = (all_end words).ready nothing_held idle no_parts refl nothing_holds (λ _. fit)

@@ -15,7 +15,8 @@ pub record Found (rows : List Row) (parts : Parts) : Type 0 where
   pub names : values_at (codes "name") rows ≡ parts.names
 
 pub values_of-more : (name : Text) (options : List Given) (given : Given)
-    → values_of name (options ++ given ∷ []) ≡ values_of name options ++ (if bytes_eq given.name name then given.value ∷ [] else [])
+    → values_of name (options ++ given ∷ [])
+    ≡ values_of name options ++ (if bytes_eq given.name name then given.value ∷ [] else [])
 values_of-more name [] given = go (bytes_eq given.name name) refl
   where
     go : (b : Bool) → bytes_eq given.name name ≡ b
@@ -24,9 +25,11 @@ values_of-more name [] given = go (bytes_eq given.name name) refl
     go false e = rw e refl
 values_of-more name (o ∷ os) given = go (values_of-more name os given) (bytes_eq o.name name) refl
   where
-    go : values_of name (os ++ given ∷ []) ≡ values_of name os ++ (if bytes_eq given.name name then given.value ∷ [] else [])
+    go : values_of name (os ++ given ∷ [])
+        ≡ values_of name os ++ (if bytes_eq given.name name then given.value ∷ [] else [])
         → (b : Bool) → bytes_eq o.name name ≡ b
-        → values_of name (o ∷ os ++ given ∷ []) ≡ values_of name (o ∷ os) ++ (if bytes_eq given.name name then given.value ∷ [] else [])
+        → values_of name (o ∷ os ++ given ∷ [])
+        ≡ values_of name (o ∷ os) ++ (if bytes_eq given.name name then given.value ∷ [] else [])
     go more true e = rw e (ap (λ x. o.value ∷ x) more)
     go more false e = rw e more
 
@@ -41,7 +44,8 @@ pub option_found : (name value : Text) (rows : List Row) (parts : Parts) → is_
     → Found (used (option_rule name) (value ∷ []) rows) (with_option name value parts)
 option_found name value rows parts known found = record {
   options = λ other e. go other e (bytes_eq name other) refl;
-  names = values-kept name (codes "name") _ _ (value ∷ []) rows (differs (bytes_eq name (codes "name")) refl) ∙ found.names;
+  names = values-kept name (codes "name") _ _ (value ∷ []) rows (differs (bytes_eq name (codes "name")) refl)
+      ∙ found.names;
 }
   where
     differs : (b : Bool) → bytes_eq name (codes "name") ≡ b → b ≡ false
@@ -51,14 +55,17 @@ option_found name value rows parts known found = record {
         absurd (true≢false (sym bad))
 
     go : (other : Text) → is_option other ≡ true → (b : Bool) → bytes_eq name other ≡ b
-        → values_at other (used (option_rule name) (value ∷ []) rows) ≡ values_of other (with_option name value parts).options
+        → values_at other (used (option_rule name) (value ∷ []) rows)
+        ≡ values_of other (with_option name value parts).options
     go other e true f =
-        let here : values_at name (used (option_rule name) (value ∷ []) rows) ≡ values_of name (parts.options ++ record { name = name; value = value } ∷ []) =
+        let here : values_at name (used (option_rule name) (value ∷ []) rows)
+        ≡ values_of name (parts.options ++ record { name = name; value = value } ∷ []) =
         values-added name _ _ (value ∷ []) rows ∙ ap (λ x. x ++ value ∷ []) (found.options name known)
         ∙ sym (values_of-more name parts.options (record { name = name; value = value })
         ∙ (rw (same name) refl)) in
-        subst (λ x. values_at x (used (option_rule name) (value ∷ []) rows) ≡ values_of x (with_option name value parts).options)
-        (equal name other f) here
+        subst (λ x. values_at x (used (option_rule name) (value ∷ []) rows)
+        ≡ values_of x (with_option name value parts).options) (equal name other f) here
     go other e false f =
         values-kept name other _ _ (value ∷ []) rows f ∙ found.options other e
-        ∙ sym (values_of-more other parts.options (record { name = name; value = value }) ∙ (rw f (append-nil (values_of other parts.options))))
+        ∙ sym (values_of-more other parts.options (record { name = name; value = value })
+        ∙ (rw f (append-nil (values_of other parts.options))))

@@ -31,8 +31,9 @@ first_is m id = of (matched_of (found_of m) id)
     of (Some a) = first a.vals.items
 
 -- an option is added, and then those still to come
-pub one_added : (names : List (Bor (List ℕ))) (place : ℕ) (other : Bor (List ℕ)) → place < length names → (app next all : App)
-    → next ≡ with_rule app (asked_option (get_or names place other).now) → with_options app (map (λ n. n.now) (drop place names)) ≡ all
+pub one_added : (names : List (Bor (List ℕ))) (place : ℕ) (other : Bor (List ℕ)) → place < length names
+    → (app next all : App) → next ≡ with_rule app (asked_option (get_or names place other).now)
+    → with_options app (map (λ n. n.now) (drop place names)) ≡ all
     → with_options next (map (λ n. n.now) (drop (place + 1) names)) ≡ all
 one_added names place other within app next all is before =
     ap (λ a. with_options a (map (λ n. n.now) (drop (place + 1) names))) is
@@ -47,9 +48,11 @@ module _ (values : List ℕ → List (List ℕ)) (most : ℕ) where
   fits n low = grind (arith, nat_tests)
 
   pub one_fits : (names : List (Bor (List ℕ))) (place : ℕ) (other : Bor (List ℕ)) → place < length names → (n : ℕ)
-      → n ≡ length (values (get_or names place other).now) → n ≤ most → each_fits (drop (place + 1) names) ≡ each_fits (drop place names)
+      → n ≡ length (values (get_or names place other).now) → n ≤ most
+      → each_fits (drop (place + 1) names) ≡ each_fits (drop place names)
   one_fits names place other within n is low =
-      let le : nat_le (length (values (get_or names place other).now)) most ≡ true = subst (λ k. nat_le k most ≡ true) is (fits n low) in
+      let le : nat_le (length (values (get_or names place other).now)) most ≡ true =
+      subst (λ k. nat_le k most ≡ true) is (fits n low) in
       sym (at_drop_more each_fits names place other within ∙ rw le refl)
 
 -- no command is asked for without a name
@@ -79,13 +82,14 @@ no_merge given = go (stand_at_most 0 given option_names)
 no_names : (command : List ℕ) (given : Values) → command_settings command given [] ≡ None
 no_names command given =
     rw (no_run given, no_merge given)
-    (go (bytes_eq command (codes "run")) (bytes_eq command (codes "resume")) (bytes_eq command (codes "check")) (bytes_eq command (codes "selftest"))
-    (bytes_eq command (codes "merge")))
+    (go (bytes_eq command (codes "run")) (bytes_eq command (codes "resume")) (bytes_eq command (codes "check"))
+    (bytes_eq command (codes "selftest")) (bytes_eq command (codes "merge")))
   where
     none : Option Settings
     none = None
 
-    go : (a b c d e : Bool) → (if a then none else if b then none else if c then none else if d then none else if e then none else none) ≡ None
+    go : (a b c d e : Bool) → (if a then none else if b then none else if c then none else if d then none else if e
+        then none else none) ≡ None
     go true b c d e = refl
     go false true c d e = refl
     go false false true d e = refl
@@ -95,8 +99,8 @@ no_names command given =
 
 -- where there were no names
 pub unnamed : (m : ArgMatches) (got : Option (Bor (List (Bor (List ℕ)))))
-    → option_map (λ s. map (λ v. v.now) s.now) got ≡ option_map raw_values (matched_of (found_of m) (codes "name")) → got ≡ None
-    → (command : List ℕ) → command_settings command (values_in m) (names_in m) ≡ None
+    → option_map (λ s. map (λ v. v.now) s.now) got ≡ option_map raw_values (matched_of (found_of m) (codes "name"))
+    → got ≡ None → (command : List ℕ) → command_settings command (values_in m) (names_in m) ≡ None
 unnamed m got is none command =
     let no : names_in m ≡ [] = ap (λ o. unwrap_or o []) (sym is ∙ ap (option_map (λ s. map (λ v. v.now) s.now)) none) in
     subst (λ names. command_settings command (values_in m) names ≡ None) (sym no) (no_names command (values_in m))
@@ -113,14 +117,17 @@ pub record SameValues (given other : Values) : Type 0 where
   pub kill : given (codes "kill") ≡ other (codes "kill")
   pub twice : given (codes "twice") ≡ other (codes "twice")
 
-run_same : (given other : Values) → SameValues given other → (names : List (List ℕ)) → run_settings given names ≡ run_settings other names
+run_same : (given other : Values) → SameValues given other → (names : List (List ℕ))
+    → run_settings given names ≡ run_settings other names
 unfolding run_with
-run_same given other e names = rw (e.proto, e.frame, e.workers, e.shard, e.attempts, e.budget, e.skip, e.kill, e.twice) refl
+run_same given other e names =
+    rw (e.proto, e.frame, e.workers, e.shard, e.attempts, e.budget, e.skip, e.kill, e.twice) refl
 
 check_same : (given other : Values) → SameValues given other → (names : List (List ℕ))
     → check_settings given names ≡ check_settings other names
 check_same given other e [] = refl
-check_same given other e (p ∷ []) = rw (e.proto, e.frame, e.workers, e.shard, e.attempts, e.budget, e.skip, e.kill, e.twice) refl
+check_same given other e (p ∷ []) =
+    rw (e.proto, e.frame, e.workers, e.shard, e.attempts, e.budget, e.skip, e.kill, e.twice) refl
 check_same given other e (p ∷ i ∷ names) = refl
 
 selftest_same : (given other : Values) → SameValues given other → (names : List (List ℕ))
@@ -128,16 +135,19 @@ selftest_same : (given other : Values) → SameValues given other → (names : L
 selftest_same given other e [] = refl
 selftest_same given other e (s ∷ []) = refl
 selftest_same given other e (s ∷ r ∷ []) = refl
-selftest_same given other e (s ∷ r ∷ w ∷ []) = rw (e.proto, e.frame, e.workers, e.shard, e.attempts, e.budget, e.skip, e.kill, e.twice) refl
+selftest_same given other e (s ∷ r ∷ w ∷ []) =
+    rw (e.proto, e.frame, e.workers, e.shard, e.attempts, e.budget, e.skip, e.kill, e.twice) refl
 selftest_same given other e (s ∷ r ∷ w ∷ n ∷ names) = refl
 
 merge_same : (given other : Values) → SameValues given other → (names : List (List ℕ))
     → merge_settings given names ≡ merge_settings other names
-merge_same given other e names = rw (e.proto, e.frame, e.workers, e.shard, e.attempts, e.budget, e.skip, e.kill, e.twice) refl
+merge_same given other e names =
+    rw (e.proto, e.frame, e.workers, e.shard, e.attempts, e.budget, e.skip, e.kill, e.twice) refl
 
 -- what a command asks for depends on the values of the options alone
 pub settings_same : (command : List ℕ) (m : ArgMatches) (parts : Parts) → HasParts m parts
-    → command_settings command (values_in m) (names_in m) ≡ command_settings command (λ name. values_of name parts.options) parts.names
+    → command_settings command (values_in m) (names_in m)
+    ≡ command_settings command (λ name. values_of name parts.options) parts.names
 settings_same command m parts has =
     let given : Values = values_in m in
     let other : Values = λ name. values_of name parts.options in

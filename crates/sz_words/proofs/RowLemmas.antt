@@ -28,8 +28,8 @@ values-added id how s values (r ∷ rs) = go (values-added id how s values rs) (
     go more false e = rw (e, e) more
 
 -- and those of another id stay
-pub values-kept : (id other : Text) (how : Reading) (s : ValueSource) (values : List Text) (rows : List Row) → bytes_eq id other ≡ false
-    → values_at other (with_values id how s values rows) ≡ values_at other rows
+pub values-kept : (id other : Text) (how : Reading) (s : ValueSource) (values : List Text) (rows : List Row)
+    → bytes_eq id other ≡ false → values_at other (with_values id how s values rows) ≡ values_at other rows
 values-kept id other how s values [] differ = rw differ refl
 values-kept id other how s values (r ∷ rs) differ =
     go (values-kept id other how s values rs differ) (bytes_eq r.id id) refl (bytes_eq r.id other) refl

@@ -50,7 +50,8 @@ pub long_among : (names : List Text) (name : Text) → list_any (λ n. bytes_eq 
 long_among [] name e = absurd (true≢false (sym e))
 long_among (n ∷ ns) name e = go (long_among ns name) (bytes_eq n name) refl
   where
-    go : (list_any (λ m. bytes_eq m name) ns ≡ true → arg_by_long (map option_rule ns ++ name_rule ∷ []) name ≡ Some (option_rule name))
+    go : (list_any (λ m. bytes_eq m name) ns ≡ true
+        → arg_by_long (map option_rule ns ++ name_rule ∷ []) name ≡ Some (option_rule name))
         → (b : Bool) → bytes_eq n name ≡ b
         → arg_by_long (map option_rule (n ∷ ns) ++ name_rule ∷ []) name ≡ Some (option_rule name)
     go more true f = rw f (ap (λ x. Some (option_rule x)) (equal n name f))
@@ -61,8 +62,8 @@ pub long_missing : (names : List Text) (name : Text) → list_any (λ n. bytes_e
 long_missing [] name e = refl
 long_missing (n ∷ ns) name e = go (long_missing ns name) (bytes_eq n name) refl
   where
-    go : (list_any (λ m. bytes_eq m name) ns ≡ false → arg_by_long (map option_rule ns ++ name_rule ∷ []) name ≡ None) → (b : Bool)
-        → bytes_eq n name ≡ b → arg_by_long (map option_rule (n ∷ ns) ++ name_rule ∷ []) name ≡ None
+    go : (list_any (λ m. bytes_eq m name) ns ≡ false → arg_by_long (map option_rule ns ++ name_rule ∷ []) name ≡ None)
+        → (b : Bool) → bytes_eq n name ≡ b → arg_by_long (map option_rule (n ∷ ns) ++ name_rule ∷ []) name ≡ None
     go more true f = let bad : true ≡ false = rw f at e in absurd (true≢false bad)
     go more false f = rw f (more (rw f at e))
 
@@ -71,7 +72,8 @@ pub id_among : (names : List Text) (name : Text) → list_any (λ n. bytes_eq n 
 id_among [] name e = absurd (true≢false (sym e))
 id_among (n ∷ ns) name e = go (id_among ns name) (bytes_eq n name) refl
   where
-    go : (list_any (λ m. bytes_eq m name) ns ≡ true → arg_by_id (map option_rule ns ++ name_rule ∷ []) name ≡ Some (option_rule name))
+    go : (list_any (λ m. bytes_eq m name) ns ≡ true
+        → arg_by_id (map option_rule ns ++ name_rule ∷ []) name ≡ Some (option_rule name))
         → (b : Bool) → bytes_eq n name ≡ b
         → arg_by_id (map option_rule (n ∷ ns) ++ name_rule ∷ []) name ≡ Some (option_rule name)
     go more true f = rw f (ap (λ x. Some (option_rule x)) (equal n name f))

@@ -35,7 +35,10 @@ after_name word seen = record (settled rules seen) { pending = Some (codes "name
 
 -- after `--name=VALUE`
 abbrev pub after_option : Text → Text → Held → Held
-after_option name value seen = record seen { rows = used (option_rule name) (value ∷ []) (settled rules seen).rows; pending = None }
+after_option name value seen = record seen {
+  rows = used (option_rule name) (value ∷ []) (settled rules seen).rows;
+  pending = None;
+}
 
 -- after `--name`
 abbrev pub after_bare_option : Text → Held → Held
@@ -45,8 +48,12 @@ after_bare_option name seen = record (settled rules seen) { pending = Some (name
 abbrev pub after_value : Text → Text → Held → Held
 after_value name value seen = record seen { pending = Some (name, value ∷ []) }
 
-pub name_holds : (word : Text) (seen : Held) (parts : Parts) → Holds seen parts → Holds (after_name word seen) (with_name word parts)
-name_holds word seen parts h = record { settles = refl; found = name_found word (settled rules seen).rows parts h.found }
+pub name_holds : (word : Text) (seen : Held) (parts : Parts) → Holds seen parts
+    → Holds (after_name word seen) (with_name word parts)
+name_holds word seen parts h = record {
+  settles = refl;
+  found = name_found word (settled rules seen).rows parts h.found;
+}
 
 pub option_holds : (name value : Text) (seen : Held) (parts : Parts) → is_option name ≡ true → Holds seen parts
     → Holds (after_option name value seen) (with_option name value parts)
@@ -71,10 +78,11 @@ pub positional_settles : (seen : Held) → settle_fault rules false seen ≡ [] 
 positional_settles seen e true = e
 positional_settles seen e false = e
 
-pub name_fault : (seen : Held) (q : Waiting) (ended : Bool) (word : Text) → is_quiet q ≡ true → (ended || is_name word) ≡ true
-    → settle_fault rules false seen ≡ [] → NoFault (at seen q ended) word
+pub name_fault : (seen : Held) (q : Waiting) (ended : Bool) (word : Text) → is_quiet q ≡ true
+    → (ended || is_name word) ≡ true → settle_fault rules false seen ≡ [] → NoFault (at seen q ended) word
 name_fault seen idle true word quiet e settles = positional_settles seen settles (is_pending name_rule seen.pending)
-name_fault seen positional true word quiet e settles = positional_settles seen settles (is_pending name_rule seen.pending)
+name_fault seen positional true word quiet e settles =
+    positional_settles seen settles (is_pending name_rule seen.pending)
 name_fault seen (option name) ended word quiet e settles = absurd (true≢false (sym quiet))
 name_fault seen idle false word quiet e settles =
     let no = name-NoOption word e in
@@ -89,21 +97,27 @@ pub to_name : (seen : Held) (word : Text) (b : Bool)
 to_name seen word true = refl
 to_name seen word false = refl
 
-pub name_walked : (seen : Held) (q : Waiting) (ended : Bool) (word : Text) → is_quiet q ≡ true → (ended || is_name word) ≡ true
+pub name_walked : (seen : Held) (q : Waiting) (ended : Bool) (word : Text) → is_quiet q ≡ true
+    → (ended || is_name word) ≡ true
     → walked rules [] (at seen q ended) word ≡ at (after_name word seen) positional ended
 unfolding walked
-name_walked seen idle true word quiet e = ap (λ h. at h positional true) (to_name seen word (is_pending name_rule seen.pending))
-name_walked seen positional true word quiet e = ap (λ h. at h positional true) (to_name seen word (is_pending name_rule seen.pending))
+name_walked seen idle true word quiet e =
+    ap (λ h. at h positional true) (to_name seen word (is_pending name_rule seen.pending))
+name_walked seen positional true word quiet e =
+    ap (λ h. at h positional true) (to_name seen word (is_pending name_rule seen.pending))
 name_walked seen (option name) ended word quiet e = absurd (true≢false (sym quiet))
 name_walked seen idle false word quiet e =
     let no = name-NoOption word e in
-    rw (no.no_end, no.no_long, no.no_short) (ap (λ h. at h positional false) (to_name seen word (is_pending name_rule seen.pending)))
+    rw (no.no_end, no.no_long, no.no_short)
+    (ap (λ h. at h positional false) (to_name seen word (is_pending name_rule seen.pending)))
 name_walked seen positional false word quiet e =
     let no = name-NoOption word e in
-    rw (no.no_end, no.no_long, no.no_short) (ap (λ h. at h positional false) (to_name seen word (is_pending name_rule seen.pending)))
+    rw (no.no_end, no.no_long, no.no_short)
+    (ap (λ h. at h positional false) (to_name seen word (is_pending name_rule seen.pending)))
 
 -- `--` ends the options
-pub end_fault : (seen : Held) (q : Waiting) (word : Text) → is_quiet q ≡ true → bytes_eq word (codes "--") ≡ true → NoFault (at seen q false) word
+pub end_fault : (seen : Held) (q : Waiting) (word : Text) → is_quiet q ≡ true → bytes_eq word (codes "--") ≡ true
+    → NoFault (at seen q false) word
 end_fault seen idle word quiet e = rw e refl
 end_fault seen positional word quiet e = rw e refl
 end_fault seen (option name) word quiet e = absurd (true≢false (sym quiet))
@@ -121,7 +135,8 @@ pub record IsLong (word name : Text) (value : Option Text) : Type 0 where
   pub long : long_of word ≡ Some (name, value)
 
 -- an option with its value
-pub value_fault : (seen : Held) (q : Waiting) (word name value : Text) → is_quiet q ≡ true → IsLong word name (Some value) → is_option name ≡ true
+pub value_fault : (seen : Held) (q : Waiting) (word name value : Text) → is_quiet q ≡ true
+    → IsLong word name (Some value) → is_option name ≡ true
     → settle_fault rules false seen ≡ [] → NoFault (at seen q false) word
 value_fault seen idle word name value quiet l known settles =
     rw (l.no_end, l.long, by_long name known, settles) refl
@@ -129,7 +144,8 @@ value_fault seen positional word name value quiet l known settles =
     rw (l.no_end, l.long, by_long name known, settles) refl
 value_fault seen (option n) word name value quiet l known settles = absurd (true≢false (sym quiet))
 
-pub value_walked : (seen : Held) (q : Waiting) (word name value : Text) → is_quiet q ≡ true → IsLong word name (Some value) → is_option name ≡ true
+pub value_walked : (seen : Held) (q : Waiting) (word name value : Text) → is_quiet q ≡ true
+    → IsLong word name (Some value) → is_option name ≡ true
     → walked rules [] (at seen q false) word ≡ at (after_option name value seen) idle false
 unfolding walked
 value_walked seen idle word name value quiet l known = rw (l.no_end, l.long, by_long name known) refl
@@ -137,13 +153,14 @@ value_walked seen positional word name value quiet l known = rw (l.no_end, l.lon
 value_walked seen (option n) word name value quiet l known = absurd (true≢false (sym quiet))
 
 -- an option whose value is to come
-pub await_fault : (seen : Held) (q : Waiting) (word name : Text) → is_quiet q ≡ true → IsLong word name None → is_option name ≡ true
-    → settle_fault rules false seen ≡ [] → NoFault (at seen q false) word
+pub await_fault : (seen : Held) (q : Waiting) (word name : Text) → is_quiet q ≡ true → IsLong word name None
+    → is_option name ≡ true → settle_fault rules false seen ≡ [] → NoFault (at seen q false) word
 await_fault seen idle word name quiet l known settles = rw (l.no_end, l.long, by_long name known, settles) refl
 await_fault seen positional word name quiet l known settles = rw (l.no_end, l.long, by_long name known, settles) refl
 await_fault seen (option n) word name quiet l known settles = absurd (true≢false (sym quiet))
 
-pub await_walked : (seen : Held) (q : Waiting) (word name : Text) → is_quiet q ≡ true → IsLong word name None → is_option name ≡ true
+pub await_walked : (seen : Held) (q : Waiting) (word name : Text) → is_quiet q ≡ true → IsLong word name None
+    → is_option name ≡ true
     → walked rules [] (at seen q false) word ≡ at (after_bare_option name seen) (option name) false
 unfolding walked
 await_walked seen idle word name quiet l known = rw (l.no_end, l.long, by_long name known) refl
@@ -151,8 +168,9 @@ await_walked seen positional word name quiet l known = rw (l.no_end, l.long, by_
 await_walked seen (option n) word name quiet l known = absurd (true≢false (sym quiet))
 
 -- no option of this name
-pub unknown_fault : (seen : Held) (q : Waiting) (word name : Text) (value : Option Text) → is_quiet q ≡ true → IsLong word name value
-    → is_option name ≡ false → (kinds : Kinds) × (turn_fault shape [] (at seen q false) word ≡ kind.UnknownArgument ∷ kinds)
+pub unknown_fault : (seen : Held) (q : Waiting) (word name : Text) (value : Option Text) → is_quiet q ≡ true
+    → IsLong word name value → is_option name ≡ false
+    → (kinds : Kinds) × (turn_fault shape [] (at seen q false) word ≡ kind.UnknownArgument ∷ kinds)
 unknown_fault seen idle word name value quiet l unknown = ([], rw (l.no_end, l.long, none_long name unknown) refl)
 unknown_fault seen positional word name value quiet l unknown = ([], rw (l.no_end, l.long, none_long name unknown) refl)
 unknown_fault seen (option n) word name value quiet l unknown = absurd (true≢false (sym quiet))
@@ -163,7 +181,8 @@ given_fault seen word name e =
     let no = name-NoOption word e in
     rw (no.no_end, no.no_long, no.no_short) refl
 
-pub given_walked : (seen : Held) (word name : Text) → is_name word ≡ true → is_option name ≡ true → seen.pending ≡ Some (name, [])
+pub given_walked : (seen : Held) (word name : Text) → is_name word ≡ true → is_option name ≡ true
+    → seen.pending ≡ Some (name, [])
     → walked rules [] (at seen (option name) false) word ≡ at (after_value name word seen) idle false
 unfolding walked
 given_walked seen word name e known pending =

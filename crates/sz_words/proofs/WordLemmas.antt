@@ -40,7 +40,8 @@ long-is (x ∷ y ∷ rest) e f = go (nat_eq x 45) refl (nat_eq y 45) refl rest f
   where
     go : (b : Bool) → nat_eq x 45 ≡ b → (c : Bool) → nat_eq y 45 ≡ c → (rest : List ℕ)
         → bytes_eq (x ∷ y ∷ rest) (codes "--") ≡ false
-        → long_of (x ∷ y ∷ rest) ≡ Some (before_first is_equals rest, (if has_equals rest then Some (after_first is_equals rest) else None))
+        → long_of (x ∷ y ∷ rest)
+        ≡ Some (before_first is_equals rest, (if has_equals rest then Some (after_first is_equals rest) else None))
     go false g c h rest f = let bad : false ≡ true = rw g at e in absurd (true≢false (sym bad))
     go true g false h rest f = let bad : false ≡ true = rw (g, h) at e in absurd (true≢false (sym bad))
     go true g true h [] f = let bad : true ≡ false = rw (g, h) at f in absurd (true≢false bad)

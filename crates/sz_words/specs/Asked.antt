@@ -15,7 +15,8 @@ asked_names = record (new_rule (codes "name")) { action = Some Append }
 
 -- the command without its options and names
 abbrev pub asked_bare : App
-asked_bare = on_top (λ s. record s { no_binary_name = true; disable_help_flag = true; disable_version_flag = true }) (new_app (codes "szl"))
+asked_bare = on_top (λ s. record s { no_binary_name = true; disable_help_flag = true; disable_version_flag = true })
+    (new_app (codes "szl"))
 
 -- with an option of each of these names
 abbrev pub with_options : App → List (List ℕ) → App

@@ -9,7 +9,8 @@ use Rattle.sz_words.specs.declared.settings.Settings.TheVariants.{Run, Selftest,
 abbrev pub InRange : ℕ → ℕ → ℕ → Type 0
 InRange least most n = (least ≤ n) × (n ≤ most)
 
--- there are 1 to 64 workers, the budget of a run is one that a record can have, a shard has a record, and there are 1 to 8 attempts on it
+-- there are 1 to 64 workers, the budget of a run is one that a record can have, a shard has a record, and there are 1
+-- to 8 attempts on it
 pub record HasBounds (s : RunSettings) : Type 0 where
   pub least_workers : 1 ≤ s.workers
   pub most_workers : s.workers ≤ 64
@@ -26,8 +27,8 @@ pub record NumbersHaveBounds (n : Numbers) : Type 0 where
   pub shard : InRange 1 65536 n.shard
   pub attempts : InRange 1 8 n.attempts
 
--- what is asked for has its bounds: those of a run, and that the tables of a job which is resumed aren't saved; the numbers of records and of
--- workers of a self test, and that of files to join
+-- what is asked for has its bounds: those of a run, and that the tables of a job which is resumed aren't saved; the
+-- numbers of records and of workers of a self test, and that of files to join
 abbrev pub IsBounded : Settings → Type 0
 IsBounded (Run s) = HasBounds s
 IsBounded (Resume s) = HasBounds s × (s.save ≡ false)

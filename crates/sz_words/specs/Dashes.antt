@@ -10,8 +10,8 @@ value_follows false word =
     if is_name word then Some false
     else if is_long word then Some (not (has_equals (drop 2 word))) else None
 
--- whether the dashes of these words fit, where the first of them is an option's value or isn't: up to `--` no value of a word of its
--- own begins with `-`, and each other word is a name or begins with two dashes
+-- whether the dashes of these words fit, where the first of them is an option's value or isn't: up to `--` no value
+-- of a word of its own begins with `-`, and each other word is a name or begins with two dashes
 abbrev pub dashes_fit : Bool → List (List ℕ) → Bool
 dashes_fit is_value [] = true
 dashes_fit is_value (word ∷ words) =

@@ -31,7 +31,8 @@ standing_after Ended word = Ended
 -- the words that are no flags, of those from one on that stands so
 abbrev pub plain_from : Standing → List (List ℕ) → List (List ℕ)
 plain_from at [] = []
-plain_from at (word ∷ words) = (if is_some (flag_of at word) then [] else word ∷ []) ++ plain_from (standing_after at word) words
+plain_from at (word ∷ words) =
+    (if is_some (flag_of at word) then [] else word ∷ []) ++ plain_from (standing_after at word) words
 
 -- the flags among the same words
 abbrev pub flags_from : Standing → List (List ℕ) → List Flag

@@ -23,9 +23,11 @@ kill_of _ = None
 -- whether one of the kills is of this attempt of this shard
 abbrev pub is_killed : ℕ → ℕ → List Kill → Bool
 is_killed shard number [] = false
-is_killed shard number (kill ∷ kills) = nat_eq kill.shard shard && nat_eq kill.number number || is_killed shard number kills
+is_killed shard number (kill ∷ kills) =
+    nat_eq kill.shard shard && nat_eq kill.number number || is_killed shard number kills
 
--- the kills before, and those that the entries name; none where an entry names none, or an attempt twice, or where they are too many
+-- the kills before, and those that the entries name; none where an entry names none, or an attempt twice, or where
+-- they are too many
 abbrev pub kills_with : List Kill → List (List ℕ) → Option (List Kill)
 kills_with kills [] = Some kills
 kills_with kills (entry ∷ entries) =
@@ -41,7 +43,8 @@ abbrev pub is_among : ℕ → List ℕ → Bool
 is_among shard [] = false
 is_among shard (other ∷ others) = nat_eq other shard || is_among shard others
 
--- the shards before, and those that the entries name; none where an entry names none, or a shard twice, or where they are too many
+-- the shards before, and those that the entries name; none where an entry names none, or a shard twice, or where they
+-- are too many
 abbrev pub shards_with : List ℕ → List (List ℕ) → Option (List ℕ)
 shards_with shards [] = Some shards
 shards_with shards (entry ∷ entries) =

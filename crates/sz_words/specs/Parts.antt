@@ -27,7 +27,8 @@ has_equals text = list_any is_equals text
 -- the options with a value that `run` and `resume` alone take, without their dashes
 abbrev pub run_names : List (List ℕ)
 run_names =
-    codes "frame" ∷ codes "workers" ∷ codes "shard" ∷ codes "attempts" ∷ codes "budget" ∷ codes "skip" ∷ codes "kill" ∷ codes "twice" ∷ []
+    codes "frame" ∷ codes "workers" ∷ codes "shard" ∷ codes "attempts" ∷ codes "budget" ∷ codes "skip" ∷ codes "kill"
+    ∷ codes "twice" ∷ []
 
 -- the options with a value, without their dashes: `check` takes the first of them too
 abbrev pub option_names : List (List ℕ)
@@ -63,9 +64,11 @@ with_option name value parts = record parts { options = parts.options ++ record 
 -- the values that were given to the option of this name, in order
 abbrev pub values_of : List ℕ → List Given → List (List ℕ)
 values_of name [] = []
-values_of name (given ∷ rest) = if bytes_eq given.name name then given.value ∷ values_of name rest else values_of name rest
+values_of name (given ∷ rest) =
+    if bytes_eq given.name name then given.value ∷ values_of name rest else values_of name rest
 
--- what the words up to a place are: no command line, or these parts, or these parts with an option that awaits its value
+-- what the words up to a place are: no command line, or these parts, or these parts with an option that awaits its
+-- value
 pub data Reading : Type 0 where
   refused : Reading
   ready : Parts → Reading

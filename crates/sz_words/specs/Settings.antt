@@ -64,7 +64,8 @@ is_empty name = nat_eq (length name) 0
 
 -- whether files can be named so: no name is empty, and standard input is at most so many of them
 abbrev pub are_files : ℕ → List (List ℕ) → Bool
-are_files inputs names = list_all (λ name. not (is_empty name)) names && nat_le (length (filter is_standard_input names)) inputs
+are_files inputs names =
+    list_all (λ name. not (is_empty name)) names && nat_le (length (filter is_standard_input names)) inputs
 
 -- whether the file of `--proto`, if there is one, and these can be named so: standard input is at most one of all
 abbrev pub all_are_files : Option (List ℕ) → List (List ℕ) → Bool
@@ -79,7 +80,8 @@ numbers_in given =
     option_and_then (λ attempts.
     option_and_then (λ budget.
     option_and_then (λ skip.
-    Some (record { frame = frame; workers = workers; shard = shard; attempts = attempts; budget = budget; skip = skip }))
+    Some
+    (record { frame = frame; workers = workers; shard = shard; attempts = attempts; budget = budget; skip = skip }))
     (number_or 0 0 1000 (value_of given (codes "skip"))))
     (number_or (2 ^ 24) 1 (2 ^ 32) (value_of given (codes "budget"))))
     (number_or 3 1 8 (value_of given (codes "attempts"))))
@@ -114,7 +116,8 @@ run_with given program input =
 
 -- the program and the input that two names are, beside the file of `--proto`
 abbrev pub files_in : Option (List ℕ) → List (List ℕ) → Option (List ℕ × List ℕ)
-files_in proto (program ∷ input ∷ []) = if all_are_files proto (program ∷ input ∷ []) then Some (program, input) else None
+files_in proto (program ∷ input ∷ []) =
+    if all_are_files proto (program ∷ input ∷ []) then Some (program, input) else None
 files_in _ _ = None
 
 -- what is asked for by `run PROGRAM INPUT`, and by `resume PROGRAM INPUT`; no option stands twice
@@ -154,7 +157,8 @@ can_be_joined names = not (nat_eq (length names) 0) && (nat_le (length names) mo
 
 -- what is asked for by `merge FILE {FILE}`, which takes no option with a value
 abbrev pub merge_settings : Values → List (List ℕ) → Option Settings
-merge_settings given names = if stand_at_most 0 given option_names && can_be_joined names then Some (Merge names false) else None
+merge_settings given names =
+    if stand_at_most 0 given option_names && can_be_joined names then Some (Merge names false) else None
 
 -- what is asked for by a command with these options and names after it
 abbrev pub command_settings : List ℕ → Values → List (List ℕ) → Option Settings
@@ -168,12 +172,15 @@ command_settings command given names =
 -- what is asked for by a command and the words after it that are no flags
 abbrev pub plain_settings : List ℕ → List (List ℕ) → Option Settings
 plain_settings command words =
-    option_and_then (λ parts. command_settings command (λ name. values_of name parts.options) parts.names) (parts_of words)
+    option_and_then (λ parts. command_settings command (λ name. values_of name parts.options) parts.names)
+    (parts_of words)
 
--- the same with a flag more, which doesn't stand there yet: `run` takes each of them, `resume` takes `--ignore-undefs`, and `merge` takes `--save`
+-- the same with a flag more, which doesn't stand there yet: `run` takes each of them, `resume` takes
+-- `--ignore-undefs`, and `merge` takes `--save`
 abbrev pub with_flag : Flag → Settings → Option Settings
 with_flag IgnoreUndefs (Run s) = if not s.ignore_undefs then Some (Run (record s { ignore_undefs = true })) else None
-with_flag IgnoreUndefs (Resume s) = if not s.ignore_undefs then Some (Resume (record s { ignore_undefs = true })) else None
+with_flag IgnoreUndefs (Resume s) =
+    if not s.ignore_undefs then Some (Resume (record s { ignore_undefs = true })) else None
 with_flag Save (Run s) = if not s.save then Some (Run (record s { save = true })) else None
 with_flag Save (Merge files save) = if not save then Some (Merge files true) else None
 with_flag _ settings = None

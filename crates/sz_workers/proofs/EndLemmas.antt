@@ -13,12 +13,12 @@ use Rattle.sz_attempt.specs.declared.job.Shard.{Shard}
 use Rattle.sz_attempt.specs.declared.ends.Skipped.{Skipped}
 use Rattle.sz_attempt.specs.Shards.{shard_at, IsJob}
 use Rattle.sz_attempt.specs.Ends.{seen_faults}
-use Rattle.sz_rounds.specs.declared.round.Round.{Round}
-use Rattle.sz_rounds.specs.declared.round.RoundEnd.TheVariants as ends
-use Rattle.sz_rounds.specs.Outcomes.{faulted, lost, outcome_from}
-use Rattle.sz_rounds.specs.Rounds.{shards_of, IsRound, EndsRound}
-use Rattle.sz_rounds.proofs.OutcomeLemmas.{none_beyond}
-use Rattle.sz_rounds.proofs.RoundLemmas.{length-numbered, numbered_at, same_there}
+use Rattle.sz_workers.specs.declared.round.Round.{Round}
+use Rattle.sz_workers.specs.declared.round.RoundEnd.TheVariants as ends
+use Rattle.sz_workers.specs.Outcomes.{faulted, lost, outcome_from}
+use Rattle.sz_workers.specs.Rounds.{shards_of, IsRound, EndsRound}
+use Rattle.sz_workers.proofs.OutcomeLemmas.{none_beyond}
+use Rattle.sz_workers.proofs.RoundLemmas.{length-numbered, numbered_at, same_there}
 use Rattle.sz_workers.specs.declared.first_faults.FirstFaults.{FirstFaults}
 use Rattle.sz_workers.specs.declared.round_end.Rest.TheVariants as rests
 use Rattle.sz_workers.specs.FirstOfBoth.{IsFirstOfBoth}
@@ -41,7 +41,8 @@ in_front_some first (Some x) one is = by (nat_lt x.record_no first) refl is
     tested : (a b : ℕ) → nat_lt a b ≡ true → a < b
     tested a b t = grind (arith, nat_tests)
 
-    by : (b : Bool) → nat_lt x.record_no first ≡ b → (if b then Some x else None) ≡ Some one → (Some x ≡ Some one) × (one.record_no < first)
+    by : (b : Bool) → nat_lt x.record_no first ≡ b → (if b then Some x else None) ≡ Some one
+        → (Some x ≡ Some one) × (one.record_no < first)
     by true t h = (h, subst (λ (s : Skipped). s.record_no < first) (same x h) (tested x.record_no first t))
     by false t h = absurd (cc)
 
@@ -59,8 +60,10 @@ in_front_none first (Some x) is = by (nat_lt x.record_no first) refl is
     by false t h = inr (x, refl, tested x.record_no first t)
 
 -- where none is too many, there are few
-pub few_skipped : (job : Job) (round : Round) (faults : List Skipped) → one_too_many job round faults ≡ None → length faults ≤ job.skip
-few_skipped job round faults none = let beyond = none_beyond faults (job.skip - round.passed) none in omega (arith, beyond)
+pub few_skipped : (job : Job) (round : Round) (faults : List Skipped) → one_too_many job round faults ≡ None
+    → length faults ≤ job.skip
+few_skipped job round faults none = let beyond = none_beyond faults (job.skip - round.passed) none in
+    omega (arith, beyond)
 
 got_low : {A : Type 0} (xs : List A) (i : ℕ) (x : A) → slice_get xs i ≡ Some x → i < length xs
 got_low [] i x there = absurd (cc)
@@ -68,7 +71,8 @@ got_low (y ∷ xs) zero x there = omega arith
 got_low (y ∷ xs) (suc i) x there = let rest = got_low xs i x there in omega (arith, rest)
 
 module _ (named : Job) (of : Round) (job : Job) (round : Round) (p : PlanData) (set : IsSet named of job round p) where
-  holds_here : (total : TotalState) (part : FirstFaults) (ss : List ℕ) → HoldsShards named of total part ss → HoldsShards job round total part ss
+  holds_here : (total : TotalState) (part : FirstFaults) (ss : List ℕ) → HoldsShards named of total part ss
+      → HoldsShards job round total part ss
   holds_here total part ss holds =
       subst (λ (j : Job). HoldsShards j round total part ss) (sym set.job_is)
       (subst (λ (r : Round). HoldsShards named r total part ss) (sym set.round_is) holds)
@@ -78,7 +82,8 @@ module _ (named : Job) (of : Round) (job : Job) (round : Round) (p : PlanData) (
       subst (λ (j : Job). round.passed ≤ j.skip) (sym set.job_is)
       (subst (λ (r : Round). r.passed ≤ named.skip) (sym set.round_is) set.passed)
 
-  module _ (total : TotalState) (part : FirstFaults) (ss : List ℕ) (n : ℕ) (holds : HoldsShards named of total part ss) (front : HasFront ss n) where
+  module _ (total : TotalState) (part : FirstFaults) (ss : List ℕ) (n : ℕ)
+      (holds : HoldsShards named of total part ss) (front : HasFront ss n) where
     -- a record too many in front of a shard decides
     pub front_decides : (shard : Shard) → slice_get round.shards n ≡ Some shard → (one : Skipped)
         → in_front shard.first (one_too_many job round part.faults) ≡ Some one
@@ -86,7 +91,8 @@ module _ (named : Job) (of : Round) (job : Job) (round : Round) (p : PlanData) (
     front_decides shard there one is =
         let found = in_front_some shard.first (one_too_many job round part.faults) one is in
         fault_before job round few_passed total part ss (holds_here total part ss holds) n front
-        (shard_at (round.first_shard + n) round.records.items shard) (numbered_at round.first_shard round.records.items round.shards n shard there) one
+        (shard_at (round.first_shard + n) round.records.items shard)
+        (numbered_at round.first_shard round.records.items round.shards n shard there) one
         found.0 found.1
 
     -- and where there is none, no shard in front does
@@ -94,14 +100,17 @@ module _ (named : Job) (of : Round) (job : Job) (round : Round) (p : PlanData) (
         → in_front shard.first (one_too_many job round part.faults) ≡ None → NoneInFront job round n
     none_in_front shard there is = by (in_front_none shard.first (one_too_many job round part.faults) is)
       where
-        by : (one_too_many job round part.faults ≡ None) ⊎ ((one : Skipped) × (one_too_many job round part.faults ≡ Some one) × (shard.first ≤ one.record_no))
+        by : (one_too_many job round part.faults ≡ None)
+            ⊎ ((one : Skipped) × (one_too_many job round part.faults ≡ Some one) × (shard.first ≤ one.record_no))
             → NoneInFront job round n
         by (inl none) =
             none_before_by job round few_passed total part ss (holds_here total part ss holds) n front
-            (shard_at (round.first_shard + n) round.records.items shard) (numbered_at round.first_shard round.records.items round.shards n shard there) none
+            (shard_at (round.first_shard + n) round.records.items shard)
+            (numbered_at round.first_shard round.records.items round.shards n shard there) none
         by (inr later) =
             later_before job round few_passed total part ss (holds_here total part ss holds) n front
-            (shard_at (round.first_shard + n) round.records.items shard) (numbered_at round.first_shard round.records.items round.shards n shard there)
+            (shard_at (round.first_shard + n) round.records.items shard)
+            (numbered_at round.first_shard round.records.items round.shards n shard there)
             later.0 later.1 later.2
 
     all_there : p.shards ≤ n → length (shards_of round) ≤ n
@@ -114,15 +123,19 @@ module _ (named : Job) (of : Round) (job : Job) (round : Round) (p : PlanData) (
     pub fault_decides : p.shards ≤ n → (one : Skipped) → one_too_many job round part.faults ≡ Some one
         → outcome_from job round.passed (shards_of round) ≡ faulted one.record_no (seen_fault one.fault)
     fault_decides enough one is =
-        fault_of_all job round few_passed total part ss (holds_here total part ss holds) n front (all_there enough) one is
+        fault_of_all job round few_passed total part ss (holds_here total part ss holds) n front
+        (all_there enough) one is
 
     -- and where there is none, the round ends with the tables, and with so many records that were passed over
-    pub tables_end : ForgetsOrder → p.shards ≤ n → one_too_many job round part.faults ≡ None → (count : ℕ) → count ≡ length part.faults
+    pub tables_end : ForgetsOrder → p.shards ≤ n → one_too_many job round part.faults ≡ None → (count : ℕ)
+        → count ≡ length part.faults
         → EndsRound job.compiled (outcome_from job round.passed (shards_of round)) (ends.Tables total count)
     tables_end forgets enough none count is =
         let there = all_there enough in
-        subst (λ k. EndsRound job.compiled (outcome_from job round.passed (shards_of round)) (ends.Tables total k)) (sym is)
-        (tables_of_all job round total part ss few_passed forgets (holds_here total part ss holds) (λ s l. front s (omega (arith, l, there))) none)
+        subst
+        (λ k. EndsRound job.compiled (outcome_from job round.passed (shards_of round)) (ends.Tables total k)) (sym is)
+        (tables_of_all job round total part ss few_passed forgets (holds_here total part ss holds)
+        (λ s l. front s (omega (arith, l, there))) none)
 
   -- a shard is lost where the words tell that all its attempts died
   pub lost_by_words : (won deaths : List ℕ) (n : ℕ) → AreWords named of won deaths → n < length round.shards
@@ -131,11 +144,13 @@ module _ (named : Job) (of : Round) (job : Job) (round : Round) (p : PlanData) (
   lost_by_words won deaths n words within all none =
       let here = subst (λ (j : Job). AreWords j round won deaths) (sym set.job_is)
       (subst (λ (r : Round). AreWords named r won deaths) (sym set.round_is) words) in
-      let found = lost_there job round n job.attempts within (le_refl job.attempts) (died_by_words job round won deaths n job.attempts here all) in
+      let found = lost_there job round n job.attempts within (le_refl job.attempts)
+      (died_by_words job round won deaths n job.attempts here all) in
       lost_ends job round n found.0 within found.1 found.2 none
 
   -- the part of a shard that was run holds it
-  pub part_is_one : (total : TotalState) (faults : List Skipped) (first : FirstFaults) (n : ℕ) → RestEnds job round n (rests.Part total faults)
+  pub part_is_one : (total : TotalState) (faults : List Skipped) (first : FirstFaults) (n : ℕ)
+      → RestEnds job round n (rests.Part total faults)
       → first.faults ≡ faults → first.most ≡ job.skip + 1 → HoldsShards named of total first (n ∷ [])
   part_is_one total faults first n end same most =
       let runs = subst (λ (j : Job). IsJob j) (sym set.job_is) set.job_runs in
@@ -146,8 +161,9 @@ module _ (named : Job) (of : Round) (job : Job) (round : Round) (p : PlanData) (
       (subst (λ (j : Job). HoldsShards j round total first (n ∷ [])) set.job_is one)
 
   -- with a bad shard one record is too many, and decides
-  module _ (total : TotalState) (part theirs both : FirstFaults) (ss : List ℕ) (n : ℕ) (faults : List Skipped) (holds : HoldsShards named of total part ss)
-      (front : HasFront ss n) (absent : ¬ IsAmong n ss) (end : RestEnds job round n (rests.Bad faults)) (same : theirs.faults ≡ faults)
+  module _ (total : TotalState) (part theirs both : FirstFaults) (ss : List ℕ) (n : ℕ) (faults : List Skipped)
+      (holds : HoldsShards named of total part ss) (front : HasFront ss n) (absent : ¬ IsAmong n ss)
+      (end : RestEnds job round n (rests.Bad faults)) (same : theirs.faults ≡ faults)
       (most : theirs.most ≡ job.skip + 1) (joins : IsFirstOfBoth part theirs both) where
     found : (one : Skipped) × (slice_get both.faults (job.skip - round.passed) ≡ Some one)
         × (outcome_from job round.passed (shards_of round) ≡ faulted one.record_no (seen_fault one.fault))

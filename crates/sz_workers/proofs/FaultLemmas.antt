@@ -15,7 +15,7 @@ use Rattle.sz_attempt.specs.Shards.{ShardData}
 use Rattle.sz_attempt.specs.Yields.{Faulting, yield_of, means}
 use Rattle.sz_attempt.specs.Attempts.{shard_means}
 use Rattle.sz_attempt.specs.Ends.{seen_skipped, seen_faults}
-use Rattle.sz_rounds.specs.Outcomes.{FollowFrom, faults_in}
+use Rattle.sz_workers.specs.Outcomes.{FollowFrom, faults_in}
 use Rattle.sz_workers.specs.FirstFaults.{next_of, merged}
 use Rattle.sz_workers.specs.Parts.{faults_from}
 
@@ -53,17 +53,20 @@ merged_next n xs ys ps qs next is = by xs ys is
     by [] (y ∷ ys) e = one (y, [], ys) e
     by (x ∷ xs) (y ∷ ys) e = either (nat_le x.record_no y.record_no) (x, xs, y ∷ ys) (y, x ∷ xs, ys) e
 
-pub seen_merged : (n : ℕ) (xs ys : List Skipped) → seen_faults (merged n xs ys) ≡ merge n (seen_faults xs) (seen_faults ys)
+pub seen_merged : (n : ℕ) (xs ys : List Skipped)
+    → seen_faults (merged n xs ys) ≡ merge n (seen_faults xs) (seen_faults ys)
 seen_merged zero xs ys = refl
 seen_merged (suc n) [] [] = refl
 seen_merged (suc n) (x ∷ xs) [] = ap (λ l. seen_skipped x ∷ l) (seen_merged n xs [])
 seen_merged (suc n) [] (y ∷ ys) = ap (λ l. seen_skipped y ∷ l) (seen_merged n [] ys)
-seen_merged (suc n) (x ∷ xs) (y ∷ ys) = by (nat_le x.record_no y.record_no) (seen_merged n xs (y ∷ ys)) (seen_merged n (x ∷ xs) ys)
+seen_merged (suc n) (x ∷ xs) (y ∷ ys) =
+    by (nat_le x.record_no y.record_no) (seen_merged n xs (y ∷ ys)) (seen_merged n (x ∷ xs) ys)
   where
     by : (b : Bool) → seen_faults (merged n xs (y ∷ ys)) ≡ merge n (seen_faults xs) (seen_faults (y ∷ ys))
         → seen_faults (merged n (x ∷ xs) ys) ≡ merge n (seen_faults (x ∷ xs)) (seen_faults ys)
         → seen_faults (if b then x ∷ merged n xs (y ∷ ys) else y ∷ merged n (x ∷ xs) ys)
-        ≡ (if b then seen_skipped x ∷ merge n (seen_faults xs) (seen_faults (y ∷ ys)) else seen_skipped y ∷ merge n (seen_faults (x ∷ xs)) (seen_faults ys))
+        ≡ (if b then seen_skipped x ∷ merge n (seen_faults xs) (seen_faults (y ∷ ys))
+        else seen_skipped y ∷ merge n (seen_faults (x ∷ xs)) (seen_faults ys))
     by true first other = ap (λ l. seen_skipped x ∷ l) first
     by false first other = ap (λ l. seen_skipped y ∷ l) other
 
@@ -81,7 +84,8 @@ merge_fronts (suc n) (suc a) (suc b) (x ∷ xs) (y ∷ ys) la lb =
     by (nat_le x.number y.number) (merge_fronts n a (suc b) xs (y ∷ ys) (omega (arith, la)) (omega (arith, lb)))
     (merge_fronts n (suc a) b (x ∷ xs) ys (omega (arith, la)) (omega (arith, lb)))
   where
-    by : (t : Bool) → merge n (take a xs) (y ∷ take b ys) ≡ merge n xs (y ∷ ys) → merge n (x ∷ take a xs) (take b ys) ≡ merge n (x ∷ xs) ys
+    by : (t : Bool) → merge n (take a xs) (y ∷ take b ys) ≡ merge n xs (y ∷ ys)
+        → merge n (x ∷ take a xs) (take b ys) ≡ merge n (x ∷ xs) ys
         → (if t then x ∷ merge n (take a xs) (y ∷ take b ys) else y ∷ merge n (x ∷ take a xs) (take b ys))
         ≡ (if t then x ∷ merge n xs (y ∷ ys) else y ∷ merge n (x ∷ xs) ys)
     by true first other = ap (λ l. x ∷ l) first
@@ -95,30 +99,32 @@ abbrev pub AreFrom : ℕ → List Faulting → Type 0
 AreFrom m fs = All (λ (f : Faulting). m ≤ f.number) fs
 
 -- what is below all of the others comes first
-pub merge_before : (m : ℕ) (fs xs ys zs : List Faulting) → AreBelow m fs → AreFrom m ys → ((n : ℕ) → merge n xs ys ≡ take n zs)
-    → (n : ℕ) → merge n (fs ++ xs) ys ≡ take n (fs ++ zs)
+pub merge_before : (m : ℕ) (fs xs ys zs : List Faulting) → AreBelow m fs → AreFrom m ys
+    → ((n : ℕ) → merge n xs ys ≡ take n zs) → (n : ℕ) → merge n (fs ++ xs) ys ≡ take n (fs ++ zs)
 merge_before m [] xs ys zs below from rest n = rest n
 merge_before m (f ∷ fs) xs ys zs below from rest zero = refl
 merge_before m (f ∷ fs) xs [] zs below from rest (suc n) =
     ap (λ l. f ∷ l) (merge_before m fs xs [] zs (All-tail (λ (g : Faulting). g.number < m) f fs below) from rest n)
 merge_before m (f ∷ fs) xs (y ∷ ys) zs below from rest (suc n) =
     ap (λ b. if b then f ∷ merge n (fs ++ xs) (y ∷ ys) else y ∷ merge n (f ∷ (fs ++ xs)) ys)
-    (tested f.number y.number m (All-head (λ (g : Faulting). g.number < m) f fs below) (All-head (λ (g : Faulting). m ≤ g.number) y ys from))
-    ∙ ap (λ l. f ∷ l) (merge_before m fs xs (y ∷ ys) zs (All-tail (λ (g : Faulting). g.number < m) f fs below) from rest n)
+    (tested f.number y.number m (All-head (λ (g : Faulting). g.number < m) f fs below)
+    (All-head (λ (g : Faulting). m ≤ g.number) y ys from)) ∙ ap (λ l. f ∷ l)
+    (merge_before m fs xs (y ∷ ys) zs (All-tail (λ (g : Faulting). g.number < m) f fs below) from rest n)
   where
     tested : (a b c : ℕ) → a < c → c ≤ b → nat_le a b ≡ true
     tested a b c l h = let le : a ≤ b = omega (arith, l, h) in grind (arith, nat_tests)
 
-pub merge_after : (m : ℕ) (fs xs ys zs : List Faulting) → AreBelow m fs → AreFrom m xs → ((n : ℕ) → merge n xs ys ≡ take n zs)
-    → (n : ℕ) → merge n xs (fs ++ ys) ≡ take n (fs ++ zs)
+pub merge_after : (m : ℕ) (fs xs ys zs : List Faulting) → AreBelow m fs → AreFrom m xs
+    → ((n : ℕ) → merge n xs ys ≡ take n zs) → (n : ℕ) → merge n xs (fs ++ ys) ≡ take n (fs ++ zs)
 merge_after m [] xs ys zs below from rest n = rest n
 merge_after m (f ∷ fs) xs ys zs below from rest zero = refl
 merge_after m (f ∷ fs) [] ys zs below from rest (suc n) =
     ap (λ l. f ∷ l) (merge_after m fs [] ys zs (All-tail (λ (g : Faulting). g.number < m) f fs below) from rest n)
 merge_after m (f ∷ fs) (x ∷ xs) ys zs below from rest (suc n) =
     ap (λ b. if b then x ∷ merge n xs (f ∷ (fs ++ ys)) else f ∷ merge n (x ∷ xs) (fs ++ ys))
-    (tested x.number f.number m (All-head (λ (g : Faulting). g.number < m) f fs below) (All-head (λ (g : Faulting). m ≤ g.number) x xs from))
-    ∙ ap (λ l. f ∷ l) (merge_after m fs (x ∷ xs) ys zs (All-tail (λ (g : Faulting). g.number < m) f fs below) from rest n)
+    (tested x.number f.number m (All-head (λ (g : Faulting). g.number < m) f fs below)
+    (All-head (λ (g : Faulting). m ≤ g.number) x xs from)) ∙ ap (λ l. f ∷ l)
+    (merge_after m fs (x ∷ xs) ys zs (All-tail (λ (g : Faulting). g.number < m) f fs below) from rest n)
   where
     tested : (a b c : ℕ) → b < c → c ≤ a → nat_le a b ≡ false
     tested a b c l h = let less : b < a = omega (arith, l, h) in grind (arith, nat_tests)
@@ -128,17 +134,20 @@ pub above : (m n : ℕ) (fs : List Faulting) → m ≤ n → AreFrom n fs → Ar
 above m n [] le from = All-nil (λ (f : Faulting). m ≤ f.number)
 above m n (f ∷ fs) le from =
     let here = All-head (λ (g : Faulting). n ≤ g.number) f fs from in
-    All-cons (λ (g : Faulting). m ≤ g.number) f fs (omega (arith, here, le)) (above m n fs le (All-tail (λ (g : Faulting). n ≤ g.number) f fs from))
+    All-cons (λ (g : Faulting). m ≤ g.number) f fs (omega (arith, here, le))
+    (above m n fs le (All-tail (λ (g : Faulting). n ≤ g.number) f fs from))
 
 pub numbered_from : (job : Job) (n : ℕ) (rs : List (List ℕ)) → AreFrom n (means job n rs).faults
 numbered_from job n [] = All-nil (λ (f : Faulting). n ≤ f.number)
 numbered_from job n (r ∷ rs) =
-    by (mean job.compiled job.statics job.budget r) (above n (suc n) (means job (suc n) rs).faults (omega arith) (numbered_from job (suc n) rs))
+    by (mean job.compiled job.statics job.budget r)
+    (above n (suc n) (means job (suc n) rs).faults (omega arith) (numbered_from job (suc n) rs))
   where
     by : (o : Outcome (List EmitDatum)) → AreFrom n (means job (suc n) rs).faults
         → AreFrom n ((yield_of n o).faults ++ (means job (suc n) rs).faults)
     by (Done es) rest = rest
-    by (Faulted f) rest = All-cons (λ (g : Faulting). n ≤ g.number) (record { number = n; fault = f }) (means job (suc n) rs).faults (omega arith) rest
+    by (Faulted f) rest = All-cons (λ (g : Faulting). n ≤ g.number) (record { number = n; fault = f })
+        (means job (suc n) rs).faults (omega arith) rest
 
 pub numbered_below : (job : Job) (n : ℕ) (rs : List (List ℕ)) → AreBelow (n + length rs) (means job n rs).faults
 numbered_below job n [] = All-nil (λ (f : Faulting). f.number < n + 0)
@@ -151,7 +160,8 @@ numbered_below job n (r ∷ rs) =
         → AreBelow (n + suc (length rs)) ((yield_of n o).faults ++ (means job (suc n) rs).faults)
     by (Done es) rest = rest
     by (Faulted f) rest =
-        All-cons (λ (g : Faulting). g.number < n + suc (length rs)) (record { number = n; fault = f }) (means job (suc n) rs).faults (omega arith) rest
+        All-cons (λ (g : Faulting). g.number < n + suc (length rs)) (record { number = n; fault = f })
+        (means job (suc n) rs).faults (omega arith) rest
 
 -- whether a place is among others
 pub among_by : (s : ℕ) (ss : List ℕ) → is_among s ss ≡ true → IsAmong s ss
@@ -161,7 +171,8 @@ among_by s (t ∷ ss) h = by (nat_eq t s) refl h (among_by s ss)
     equal : (a b : ℕ) → nat_eq a b ≡ true → a ≡ b
     equal a b e = grind (arith, nat_tests)
 
-    by : (b : Bool) → nat_eq t s ≡ b → (b || is_among s ss) ≡ true → (is_among s ss ≡ true → IsAmong s ss) → (t ≡ s) ⊎ IsAmong s ss
+    by : (b : Bool) → nat_eq t s ≡ b → (b || is_among s ss) ≡ true → (is_among s ss ≡ true → IsAmong s ss)
+        → (t ≡ s) ⊎ IsAmong s ss
     by true e g rest = inl (equal t s e)
     by false e g rest = inr (rest g)
 
@@ -181,13 +192,15 @@ among_both : (s : ℕ) (ss ts : List ℕ) → is_among s (ss ++ ts) ≡ (is_amon
 among_both s [] ts = refl
 among_both s (t ∷ ss) ts = by (nat_eq t s) (among_both s ss ts)
   where
-    by : (b : Bool) → is_among s (ss ++ ts) ≡ (is_among s ss || is_among s ts) → (b || is_among s (ss ++ ts)) ≡ ((b || is_among s ss) || is_among s ts)
+    by : (b : Bool) → is_among s (ss ++ ts) ≡ (is_among s ss || is_among s ts)
+        → (b || is_among s (ss ++ ts)) ≡ ((b || is_among s ss) || is_among s ts)
     by true rest = refl
     by false rest = rest
 
 module _ (job : Job) where
   -- the records of shards that fault are numbered from the first on
-  pub faults_numbered : (ss : List ℕ) (place first : ℕ) (shards : List ShardData) → FollowFrom first shards → AreFrom first (faults_from job ss place shards)
+  pub faults_numbered : (ss : List ℕ) (place first : ℕ) (shards : List ShardData) → FollowFrom first shards
+      → AreFrom first (faults_from job ss place shards)
   faults_numbered ss place first [] follow = All-nil (λ (f : Faulting). first ≤ f.number)
   faults_numbered ss place first (s ∷ shards) follow =
       by (is_among place ss)
@@ -199,28 +212,33 @@ module _ (job : Job) where
 
       by : (b : Bool) → AreFrom first (faults_from job ss (suc place) shards)
           → AreFrom first ((if b then (shard_means job s).faults else []) ++ faults_from job ss (suc place) shards)
-      by true rest = All-append (λ (f : Faulting). first ≤ f.number) (shard_means job s).faults (faults_from job ss (suc place) shards) here rest
+      by true rest = All-append (λ (f : Faulting). first ≤ f.number)
+          (shard_means job s).faults (faults_from job ss (suc place) shards) here rest
       by false rest = rest
 
   -- of two lists of shards that have none in common the records that fault are merged
-  pub merge_faults : (ss ts : List ℕ) (place first : ℕ) (shards : List ShardData) → AreApart ss ts → FollowFrom first shards → (n : ℕ)
-      → merge n (faults_from job ss place shards) (faults_from job ts place shards) ≡ take n (faults_from job (ss ++ ts) place shards)
+  pub merge_faults : (ss ts : List ℕ) (place first : ℕ) (shards : List ShardData) → AreApart ss ts
+      → FollowFrom first shards → (n : ℕ) → merge n (faults_from job ss place shards)
+      (faults_from job ts place shards) ≡ take n (faults_from job (ss ++ ts) place shards)
   merge_faults ss ts place first [] apart follow zero = refl
   merge_faults ss ts place first [] apart follow (suc n) = refl
   merge_faults ss ts place first (s ∷ shards) apart follow n =
       by (is_among place ss) (is_among place ts) refl refl
       (merge_faults ss ts (suc place) (first + length s.records) shards apart follow.1)
-      ∙ sym (ap (λ b. take n ((if b then (shard_means job s).faults else []) ++ faults_from job (ss ++ ts) (suc place) shards)) (among_both place ss ts))
+      ∙ sym (ap (λ b. take n ((if b then (shard_means job s).faults else [])
+      ++ faults_from job (ss ++ ts) (suc place) shards)) (among_both place ss ts))
     where
       low : AreBelow (first + length s.records) (shard_means job s).faults
-      low = subst (λ m. AreBelow (m + length s.records) (shard_means job s).faults) follow.0 (numbered_below job s.first s.records)
+      low = subst (λ m. AreBelow (m + length s.records) (shard_means job s).faults) follow.0
+          (numbered_below job s.first s.records)
 
       by : (x y : Bool) → is_among place ss ≡ x → is_among place ts ≡ y
           → ((k : ℕ) → merge k (faults_from job ss (suc place) shards) (faults_from job ts (suc place) shards)
           ≡ take k (faults_from job (ss ++ ts) (suc place) shards))
           → merge n ((if x then (shard_means job s).faults else []) ++ faults_from job ss (suc place) shards)
           ((if y then (shard_means job s).faults else []) ++ faults_from job ts (suc place) shards)
-          ≡ take n ((if x || y then (shard_means job s).faults else []) ++ faults_from job (ss ++ ts) (suc place) shards)
+          ≡ take n
+          ((if x || y then (shard_means job s).faults else []) ++ faults_from job (ss ++ ts) (suc place) shards)
       by true true e f rest = absurd (apart place (among_by place ss e) (among_by place ts f))
       by true false e f rest =
           merge_before (first + length s.records) (shard_means job s).faults (faults_from job ss (suc place) shards)
@@ -240,8 +258,8 @@ module _ (job : Job) where
   none_before : (p place : ℕ) (shards : List ShardData) → p < place → faults_from job (p ∷ []) place shards ≡ []
   none_before p place [] less = refl
   none_before p place (s ∷ shards) less =
-      ap (λ b. (if b || false then (shard_means job s).faults else []) ++ faults_from job (p ∷ []) (suc place) shards) (unequal p place less)
-      ∙ none_before p (suc place) shards (omega (arith, less))
+      ap (λ b. (if b || false then (shard_means job s).faults else []) ++ faults_from job (p ∷ []) (suc place) shards)
+      (unequal p place less) ∙ none_before p (suc place) shards (omega (arith, less))
     where
       unequal : (a b : ℕ) → a < b → nat_eq a b ≡ false
       unequal a b l = grind (arith, nat_tests)
@@ -253,7 +271,8 @@ module _ (job : Job) where
   faults_of_one place zero (s ∷ shards) shard there =
       let same : place + 0 ≡ place = omega arith in
       ap (λ p. faults_from job (p ∷ []) place (s ∷ shards)) same
-      ∙ ap (λ b. (if b || false then (shard_means job s).faults else []) ++ faults_from job (place ∷ []) (suc place) shards) (equal place)
+      ∙ ap (λ b. (if b || false then (shard_means job s).faults else [])
+      ++ faults_from job (place ∷ []) (suc place) shards) (equal place)
       ∙ ap (λ l. (shard_means job s).faults ++ l) (none_before place (suc place) shards (omega arith))
       ∙ append-nil (shard_means job s).faults ∙ ap (λ q. (shard_means job q).faults) (some_same s there)
     where
@@ -264,7 +283,8 @@ module _ (job : Job) where
       some_same a e = cc
   faults_of_one place (suc i) (s ∷ shards) shard there =
       let same : place + suc i ≡ suc place + i = omega arith in
-      ap (λ b. (if b || false then (shard_means job s).faults else []) ++ faults_from job ((place + suc i) ∷ []) (suc place) shards) (unequal (place
+      ap (λ b. (if b || false then (shard_means job s).faults else [])
+      ++ faults_from job ((place + suc i) ∷ []) (suc place) shards) (unequal (place
       + suc i) place (omega arith))
       ∙ ap (λ p. faults_from job (p ∷ []) (suc place) shards) same ∙ faults_of_one (suc place) i shards shard there
     where
@@ -272,26 +292,30 @@ module _ (job : Job) where
       unequal a b l = grind (arith, nat_tests)
 
   -- where all shards in front of a place are among them, their records that fault come first
-  pub faults_of_front : (ss : List ℕ) (place n : ℕ) (shards : List ShardData) → ((s : ℕ) → s < n → IsAmong (place + s) ss)
-      → faults_from job ss place shards ≡ faults_in job (take n shards) ++ faults_from job ss (place + n) (drop n shards)
-  faults_of_front ss place zero shards all = let same : place ≡ place + 0 = omega arith in ap (λ p. faults_from job ss p shards) same
+  pub faults_of_front : (ss : List ℕ) (place n : ℕ) (shards : List ShardData)
+      → ((s : ℕ) → s < n → IsAmong (place + s) ss) → faults_from job ss place shards ≡ faults_in job (take n shards)
+      ++ faults_from job ss (place + n) (drop n shards)
+  faults_of_front ss place zero shards all = let same : place ≡ place + 0 = omega arith in
+      ap (λ p. faults_from job ss p shards) same
   faults_of_front ss place (suc n) [] all = refl
   faults_of_front ss place (suc n) (x ∷ shards) all =
       let here : place + 0 ≡ place = omega arith in
       let next : suc place + n ≡ place + suc n = omega arith in
-      ap (λ b. (if b then (shard_means job x).faults else []) ++ faults_from job ss (suc place) shards) (among_to place ss (subst (λ p. IsAmong p
-      ss) here (all 0 (omega arith))))
+      ap (λ b. (if b then (shard_means job x).faults else []) ++ faults_from job ss (suc place) shards)
+      (among_to place ss (subst (λ p. IsAmong p ss) here (all 0 (omega arith))))
       ∙ ap (λ l. (shard_means job x).faults ++ l)
-      (faults_of_front ss (suc place) n shards (λ s l. subst (λ p. IsAmong p ss) (shift s) (all (suc s) (omega (arith, l)))))
-      ∙ sym (append_assoc (shard_means job x).faults (faults_in job (take n shards)) (faults_from job ss (suc place + n) (drop n shards)))
-      ∙ ap (λ p. ((shard_means job x).faults ++ faults_in job (take n shards)) ++ faults_from job ss p (drop n shards)) next
+      (faults_of_front ss (suc place) n shards
+      (λ s l. subst (λ p. IsAmong p ss) (shift s) (all (suc s) (omega (arith, l)))))
+      ∙ sym (append_assoc (shard_means job x).faults (faults_in job (take n shards))
+      (faults_from job ss (suc place + n) (drop n shards))) ∙ ap (λ p.
+      ((shard_means job x).faults ++ faults_in job (take n shards)) ++ faults_from job ss p (drop n shards)) next
     where
       shift : (s : ℕ) → place + suc s ≡ suc place + s
       shift s = omega arith
 
   -- the shards from a place on follow each other
-  pub follow_drop : (first n : ℕ) (shards : List ShardData) (shard : ShardData) → FollowFrom first shards → slice_get shards n ≡ Some shard
-      → FollowFrom shard.first (drop n shards) × (first ≤ shard.first)
+  pub follow_drop : (first n : ℕ) (shards : List ShardData) (shard : ShardData) → FollowFrom first shards
+      → slice_get shards n ≡ Some shard → FollowFrom shard.first (drop n shards) × (first ≤ shard.first)
   follow_drop first n [] shard follow there = absurd (cc)
   follow_drop first zero (x ∷ shards) shard follow there =
       let same : x ≡ shard = some_same x there in
@@ -307,23 +331,25 @@ module _ (job : Job) where
   below_more m n [] le below = All-nil (λ (f : Faulting). f.number < n)
   below_more m n (f ∷ fs) le below =
       let here = All-head (λ (g : Faulting). g.number < m) f fs below in
-      All-cons (λ (g : Faulting). g.number < n) f fs (omega (arith, here, le)) (below_more m n fs le (All-tail (λ (g : Faulting). g.number < m) f fs below))
+      All-cons (λ (g : Faulting). g.number < n) f fs (omega (arith, here, le))
+      (below_more m n fs le (All-tail (λ (g : Faulting). g.number < m) f fs below))
 
   -- the records in front of a shard that fault are numbered below its first
-  pub faults_below : (first n : ℕ) (shards : List ShardData) (shard : ShardData) → FollowFrom first shards → slice_get shards n ≡ Some shard
-      → AreBelow shard.first (faults_in job (take n shards))
+  pub faults_below : (first n : ℕ) (shards : List ShardData) (shard : ShardData) → FollowFrom first shards
+      → slice_get shards n ≡ Some shard → AreBelow shard.first (faults_in job (take n shards))
   faults_below first n [] shard follow there = absurd (cc)
   faults_below first zero (x ∷ shards) shard follow there = All-nil (λ (f : Faulting). f.number < shard.first)
   faults_below first (suc n) (x ∷ shards) shard follow there =
       let later = follow_drop (first + length x.records) n shards shard follow.1 there in
-      let here = below_more (x.first + length x.records) shard.first (shard_means job x).faults (omega (arith, later.1, follow.0))
-      (numbered_below job x.first x.records) in
-      All-append (λ (f : Faulting). f.number < shard.first) (shard_means job x).faults (faults_in job (take n shards)) here
+      let here = below_more (x.first + length x.records) shard.first (shard_means job x).faults
+      (omega (arith, later.1, follow.0)) (numbered_below job x.first x.records) in
+      All-append (λ (f : Faulting). f.number < shard.first)
+      (shard_means job x).faults (faults_in job (take n shards)) here
       (faults_below (first + length x.records) n shards shard follow.1 there)
 
 -- an item of two lists that is numbered below the second is one of the first
-pub got_in_front : (m : ℕ) (fs gs : List Faulting) (i : ℕ) (one : Faulting) → AreFrom m gs → slice_get (fs ++ gs) i ≡ Some one → one.number < m
-    → slice_get fs i ≡ Some one
+pub got_in_front : (m : ℕ) (fs gs : List Faulting) (i : ℕ) (one : Faulting) → AreFrom m gs
+    → slice_get (fs ++ gs) i ≡ Some one → one.number < m → slice_get fs i ≡ Some one
 got_in_front m [] [] i one from there less = absurd (cc)
 got_in_front m [] (g ∷ gs) zero one from there less =
     let same : g.number ≡ one.number = some_same g there in
@@ -333,13 +359,14 @@ got_in_front m [] (g ∷ gs) zero one from there less =
     some_same : (a : Faulting) → Some a ≡ Some one → a.number ≡ one.number
     some_same a e = cc
 got_in_front m [] (g ∷ gs) (suc i) one from there less =
-    let wrong = got_in_front m [] gs i one (All-tail (λ (f : Faulting). m ≤ f.number) g gs from) there less in absurd (cc)
+    let wrong = got_in_front m [] gs i one (All-tail (λ (f : Faulting). m ≤ f.number) g gs from) there less in
+    absurd (cc)
 got_in_front m (f ∷ fs) gs zero one from there less = there
 got_in_front m (f ∷ fs) gs (suc i) one from there less = got_in_front m fs gs i one from there less
 
 -- an item that is not numbered below the second list is none of the first
-pub got_behind : (m : ℕ) (fs gs : List Faulting) (i : ℕ) (one : Faulting) → AreBelow m fs → slice_get (fs ++ gs) i ≡ Some one → m ≤ one.number
-    → length fs ≤ i
+pub got_behind : (m : ℕ) (fs gs : List Faulting) (i : ℕ) (one : Faulting) → AreBelow m fs
+    → slice_get (fs ++ gs) i ≡ Some one → m ≤ one.number → length fs ≤ i
 got_behind m [] gs i one below there le = omega arith
 got_behind m (f ∷ fs) gs zero one below there le =
     let same : f.number ≡ one.number = some_same f there in
@@ -349,4 +376,5 @@ got_behind m (f ∷ fs) gs zero one below there le =
     some_same : (a : Faulting) → Some a ≡ Some one → a.number ≡ one.number
     some_same a e = cc
 got_behind m (f ∷ fs) gs (suc i) one below there le =
-    let rest = got_behind m fs gs i one (All-tail (λ (g : Faulting). g.number < m) f fs below) there le in omega (arith, rest)
+    let rest = got_behind m fs gs i one (All-tail (λ (g : Faulting). g.number < m) f fs below) there le in
+    omega (arith, rest)

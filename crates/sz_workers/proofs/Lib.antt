@@ -1,3 +1,15 @@
+pub mod CallLemmas
+pub mod LoopLeftLemmas
+pub mod AdvanceLemmas
+pub mod OrderLemmas
+pub mod WonLemmas
+pub mod ClosingLemmas
+pub mod OutcomeLemmas
+pub mod CountLemmas
+pub mod RoundLemmas
+pub mod LawLemmas
+pub mod PlanLemmas
+pub mod RangeLemmas
 pub mod DecideLemmas
 pub mod EndLemmas
 pub mod FaultLemmas

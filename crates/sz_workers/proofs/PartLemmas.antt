@@ -15,17 +15,17 @@ use Rattle.sz_attempt.specs.Attempts.{shard_means}
 use Rattle.sz_attempt.specs.declared.job.Shard.{Shard}
 use Rattle.sz_attempt.specs.Ends.{StandForEmits, seen_faults}
 use Rattle.sz_attempt.proofs.ForCallers.{few_emits, take_whole, length_of_range}
-use Rattle.sz_rounds.specs.declared.round.Round.{Round}
-use Rattle.sz_rounds.specs.Outcomes.{all_records, FollowFrom}
-use Rattle.sz_rounds.specs.Rounds.{numbered, shards_of, AreNext, IsRound}
-use Rattle.sz_rounds.proofs.CountLemmas.{fewer_records, few_records}
+use Rattle.sz_workers.specs.declared.round.Round.{Round}
+use Rattle.sz_workers.specs.Outcomes.{all_records, FollowFrom}
+use Rattle.sz_workers.specs.Rounds.{numbered, shards_of, AreNext, IsRound}
+use Rattle.sz_workers.proofs.CountLemmas.{fewer_records, few_records}
 use Rattle.sz_workers.specs.declared.first_faults.FirstFaults.{FirstFaults}
 use Rattle.sz_workers.specs.FirstFaults.{merged}
 use Rattle.sz_workers.specs.FirstOfBoth.{IsFirstOfBoth}
 use Rattle.sz_workers.specs.Parts.{yield_in, emits_at, faults_at, faults_from, Counts, gathered, HasFirst, HoldsShards}
 use Rattle.sz_workers.proofs.FaultLemmas.{merge, seen_merged, merge_fronts, merge_faults, faults_of_none, faults_of_one}
 use Rattle.sz_workers.proofs.GatherLemmas.{in_order, gathered-append, gives_fewer}
-use Rattle.sz_workers_loop.proofs.WonLemmas.{among_either, distinct_joined}
+use Rattle.sz_workers.proofs.WonLemmas.{among_either, distinct_joined}
 
 module _ (job : Job) where
   -- a shard gives at most as many emits as its records may take ticks
@@ -51,11 +51,14 @@ module _ (job : Job) where
       let rest = records_more shards n in
       let long = length-append s.records (all_records (take n shards)) in
       let longer = length-append s.records (all_records (take (suc n) shards)) in
-      let one = ap (λ (k : ℕ). job.budget * k) long ∙ mul-add job.budget (length s.records) (length (all_records (take n shards))) in
-      let two = ap (λ (k : ℕ). job.budget * k) longer ∙ mul-add job.budget (length s.records) (length (all_records (take (suc n) shards))) in
+      let one = ap (λ (k : ℕ). job.budget * k) long
+      ∙ mul-add job.budget (length s.records) (length (all_records (take n shards))) in
+      let two = ap (λ (k : ℕ). job.budget * k) longer
+      ∙ mul-add job.budget (length s.records) (length (all_records (take (suc n) shards))) in
       omega (arith, rest, one, two)
 
-  few_in_order : (shards : List ShardData) (n : ℕ) → length (in_order (emits_at job shards) n) ≤ job.budget * length (all_records (take n shards))
+  few_in_order : (shards : List ShardData) (n : ℕ)
+      → length (in_order (emits_at job shards) n) ≤ job.budget * length (all_records (take n shards))
   few_in_order shards zero = omega arith
   few_in_order shards (suc n) =
       let front = few_in_order shards n in
@@ -76,7 +79,8 @@ bound b m n le few less = grind arith
 
 -- distinct shards of a round that count have few emits
 pub few_gathered : (job : Job) (round : Round) (ss : List ℕ) → IsJob job → IsRound round → AreDistinct ss
-    → ((s : ℕ) → IsAmong s ss → Counts job (shards_of round) s) → length (gathered (emits_at job (shards_of round)) ss) ≤ 2 ^ 63
+    → ((s : ℕ) → IsAmong s ss → Counts job (shards_of round) s)
+    → length (gathered (emits_at job (shards_of round)) ss) ≤ 2 ^ 63
 few_gathered job round ss job_is round_is d counts =
     let shards : List ShardData = shards_of round in
     let n : ℕ = length shards in
@@ -84,11 +88,12 @@ few_gathered job round ss job_is round_is d counts =
     let all = few_in_order job shards n in
     let fewer = fewer_records shards n in
     let records = few_records round round_is in
-    bound job.budget (length (all_records (take n shards))) (length (gathered (emits_at job shards) ss)) (omega (arith, some, all)) job_is.budget.most
-    (omega (arith, fewer, records))
+    bound job.budget (length (all_records (take n shards))) (length (gathered (emits_at job shards) ss))
+    (omega (arith, some, all)) job_is.budget.most (omega (arith, fewer, records))
 
 -- no records that fault are the first of no shard
-pub first_of_none : (job : Job) (round : Round) (first : FirstFaults) → first.faults ≡ [] → first.most ≡ 0 → HasFirst job round first []
+pub first_of_none : (job : Job) (round : Round) (first : FirstFaults) → first.faults ≡ [] → first.most ≡ 0
+    → HasFirst job round first []
 first_of_none job round first none most = record {
   first = ap seen_faults none ∙ sym (ap (take (suc job.skip)) (faults_of_none job 0 (shards_of round)));
   most = inl (refl, most);
@@ -96,37 +101,45 @@ first_of_none job round first none most = record {
 
 -- the records of one shard that fault are the first of it
 pub first_of_one : (job : Job) (round : Round) (first : FirstFaults) (s : ℕ) → Counts job (shards_of round) s
-    → seen_faults first.faults ≡ faults_at job (shards_of round) s → first.most ≡ suc job.skip → HasFirst job round first (s ∷ [])
+    → seen_faults first.faults ≡ faults_at job (shards_of round) s → first.most ≡ suc job.skip
+    → HasFirst job round first (s ∷ [])
 first_of_one job round first s c seen most =
     let same : 0 + s ≡ s = omega arith in
-    let here : faults_at job (shards_of round) s ≡ (shard_means job c.shard).faults = ap (λ o. (yield_in job o).faults) c.there in
+    let here : faults_at job (shards_of round) s ≡ (shard_means job c.shard).faults =
+    ap (λ o. (yield_in job o).faults) c.there in
     let all : faults_from job (s ∷ []) 0 (shards_of round) ≡ (shard_means job c.shard).faults =
-    ap (λ p. faults_from job (p ∷ []) 0 (shards_of round)) (sym same) ∙ faults_of_one job 0 s (shards_of round) c.shard c.there in
+    ap (λ p. faults_from job (p ∷ []) 0 (shards_of round)) (sym same)
+    ∙ faults_of_one job 0 s (shards_of round) c.shard c.there in
     record {
-      first = seen ∙ here ∙ sym (take_whole (suc job.skip) (shard_means job c.shard).faults (let few = c.few in omega (arith, few)))
+      first = seen ∙ here
+          ∙ sym (take_whole (suc job.skip) (shard_means job c.shard).faults (let few = c.few in omega (arith, few)))
           ∙ sym (ap (take (suc job.skip)) all);
       most = inr most;
     }
 
 -- the shards of a round follow each other
-follow_numbered : (number place first : ℕ) (records : List (List ℕ)) (shards : List Shard) → All (IsShardIn records) shards
-    → AreNext place first shards → FollowFrom first (numbered number records shards)
+follow_numbered : (number place first : ℕ) (records : List (List ℕ)) (shards : List Shard)
+    → All (IsShardIn records) shards → AreNext place first shards → FollowFrom first (numbered number records shards)
 follow_numbered number place first records [] within next = tt
 follow_numbered number place first records (s ∷ shards) within next =
     let here = All-head (IsShardIn records) s shards within in
     let long = length_of_range records s.start s.end here.within in (
       next.1,
       subst (λ n. FollowFrom (first + n) (numbered (suc number) records shards)) (sym long)
-          (follow_numbered (suc number) s.end (first + (s.end - s.start)) records shards (All-tail (IsShardIn records) s shards within) next.2),
+          (follow_numbered (suc number) s.end (first + (s.end - s.start)) records shards
+          (All-tail (IsShardIn records) s shards within) next.2),
     )
 
 pub follow_shards : (round : Round) → IsRound round → (first : ℕ) × FollowFrom first (shards_of round)
-follow_shards round is =
-    (is.next.1, follow_numbered round.first_shard is.next.0 is.next.1 round.records.items round.shards is.within is.next.2)
+follow_shards round is = (
+  is.next.1,
+  follow_numbered round.first_shard is.next.0 is.next.1 round.records.items round.shards is.within is.next.2,
+)
 
 -- the first of both are the first of the shards of both
-pub first_of_both : (job : Job) (round : Round) (a b new : FirstFaults) (ss ts : List ℕ) → IsRound round → HasFirst job round a ss
-    → HasFirst job round b ts → AreApart ss ts → IsFirstOfBoth a b new → HasFirst job round new (ss ++ ts)
+pub first_of_both : (job : Job) (round : Round) (a b new : FirstFaults) (ss ts : List ℕ) → IsRound round
+    → HasFirst job round a ss → HasFirst job round b ts → AreApart ss ts → IsFirstOfBoth a b new
+    → HasFirst job round new (ss ++ ts)
 first_of_both job round a b new ss ts is left right apart both = by left.most right.most
   where
     all : max a.most b.most ≡ suc job.skip → HasFirst job round new (ss ++ ts)
@@ -157,7 +170,8 @@ first_of_both job round a b new ss ts is left right apart both = by left.most ri
 
 -- new tables hold no shard
 pub holds_none : (job : Job) (round : Round) (total : TotalState) (first : FirstFaults) → IsJob job → IsRound round
-    → IsNew declarations emit_count shown (all_tables job.compiled) total → first.faults ≡ [] → first.most ≡ 0 → HoldsShards job round total first []
+    → IsNew declarations emit_count shown (all_tables job.compiled) total → first.faults ≡ [] → first.most ≡ 0
+    → HoldsShards job round total first []
 holds_none job round total first job_is round_is new none most = record {
   job_is = job_is;
   round_is = round_is;
@@ -168,9 +182,11 @@ holds_none job round total first job_is round_is new none most = record {
 }
 
 -- the tables of one shard
-pub holds_one : (job : Job) (round : Round) (total : TotalState) (first : FirstFaults) (s : ℕ) → IsJob job → IsRound round
-    → Counts job (shards_of round) s → StandForEmits job.compiled total (emits_at job (shards_of round) s)
-    → seen_faults first.faults ≡ faults_at job (shards_of round) s → first.most ≡ suc job.skip → HoldsShards job round total first (s ∷ [])
+pub holds_one : (job : Job) (round : Round) (total : TotalState) (first : FirstFaults) (s : ℕ)
+    → IsJob job → IsRound round → Counts job (shards_of round) s
+    → StandForEmits job.compiled total (emits_at job (shards_of round) s)
+    → seen_faults first.faults ≡ faults_at job (shards_of round) s → first.most ≡ suc job.skip
+    → HoldsShards job round total first (s ∷ [])
 holds_one job round total first s job_is round_is counts stand seen most = record {
   job_is = job_is;
   round_is = round_is;
@@ -185,10 +201,12 @@ pub apart_one : (ss : List ℕ) (s : ℕ) → ¬ IsAmong s ss → AreApart ss (s
 apart_one ss s absent t here one =
     ⊎_elim (λ (is : s ≡ t). absent (subst (λ (k : ℕ). IsAmong k ss) (sym is) here)) (λ (no : ⊥). no) one
 
-module _ (job : Job) (round : Round) (a b : TotalState) (p q : FirstFaults) (ss ts : List ℕ) (left : HoldsShards job round a p ss)
+module _ (job : Job) (round : Round) (a b : TotalState) (p q : FirstFaults) (ss ts : List ℕ)
+    (left : HoldsShards job round a p ss)
     (right : HoldsShards job round b q ts) (apart : AreApart ss ts) where
   both_count : (s : ℕ) → IsAmong s (ss ++ ts) → Counts job (shards_of round) s
-  both_count s in' = ⊎_elim (λ (l : IsAmong s ss). left.counts s l) (λ (r : IsAmong s ts). right.counts s r) (among_either s ss ts in')
+  both_count s in' = ⊎_elim (λ (l : IsAmong s ss). left.counts s l) (λ (r : IsAmong s ts). right.counts s r)
+      (among_either s ss ts in')
 
   both_distinct : AreDistinct (ss ++ ts)
   both_distinct = distinct_joined ss ts left.distinct right.distinct apart
@@ -199,14 +217,21 @@ module _ (job : Job) (round : Round) (a b : TotalState) (p q : FirstFaults) (ss 
       let f = emits_at job (shards_of round) in
       let few = few_gathered job round (ss ++ ts) left.job_is left.round_is both_distinct both_count in
       let same = ap (λ (l : List EmitDatum). length l) (gathered-append f ss ts) in
-      omega (arith, few, same, length-append (gathered f ss) (gathered f ts), left.stand.stands.counted, right.stand.stands.counted)
+      omega (
+        arith,
+        few,
+        same,
+        length-append (gathered f ss) (gathered f ts),
+        left.stand.stands.counted,
+        right.stand.stands.counted,
+      )
 
   pub same_tables : b.tables ≡ a.tables
   same_tables = right.stand.tables ∙ sym left.stand.tables
 
   -- tables that join both hold the shards of both
-  pub holds_both : (new : TotalState) (first : FirstFaults) → Joins declarations emit_count shown a b new → IsFirstOfBoth p q first
-      → HoldsShards job round new first (ss ++ ts)
+  pub holds_both : (new : TotalState) (first : FirstFaults) → Joins declarations emit_count shown a b new
+      → IsFirstOfBoth p q first → HoldsShards job round new first (ss ++ ts)
   holds_both new first joins both =
       let f = emits_at job (shards_of round) in record {
         job_is = left.job_is;

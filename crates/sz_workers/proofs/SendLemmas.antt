@@ -137,7 +137,9 @@ first_faults_sync =
 
 module _ (κ : NamedLft) where
   pub part_send : (N : RattleType) → IsSend N → IsSend (RoundPart.the_row κ N)
-  part_send N name = declared_send (RoundPart.the_type κ N) (total_send κ, (first_faults_send, (search parts depth 30, tt)))
+  part_send N name =
+      declared_send (RoundPart.the_type κ N) (total_send κ, (first_faults_send, (search parts depth 30, tt)))
 
   pub part_sync : (N : RattleType) → IsSync N → IsSync (RoundPart.the_row κ N)
-  part_sync N name = declared_sync (RoundPart.the_type κ N) (total_sync κ, (first_faults_sync, (search parts depth 30, tt)))
+  part_sync N name =
+      declared_sync (RoundPart.the_type κ N) (total_sync κ, (first_faults_sync, (search parts depth 30, tt)))

@@ -8,21 +8,22 @@ use Rattle.sz_book.specs.Lanes.{LaneData}
 use Rattle.sz_book_rules.specs.History.{IsLegal, calls_by, HasWon}
 use Rattle.sz_claims.specs.Known.{LedgerData, PassData, AreInHand, AreEmpty, first_pass}
 use Rattle.sz_claims.proofs.ForCallers.{none_in_hand}
-use Rattle.sz_workers_loop.specs.Working.{Goes, IsInPlace, HasAllWon, IsAtWork}
-use Rattle.sz_workers_loop.specs.Advances.{HasBegun}
-use Rattle.sz_workers_loop.proofs.AdvanceLemmas.{between_self}
-use Rattle.sz_workers_loop.specs.Closing.{IsPocket, IsFresh, IsBack, IsAlone}
+use Rattle.sz_workers.specs.Working.{Goes, IsInPlace, HasAllWon, IsAtWork}
+use Rattle.sz_workers.specs.Advances.{HasBegun}
+use Rattle.sz_workers.proofs.AdvanceLemmas.{between_self}
+use Rattle.sz_workers.specs.Closing.{IsPocket, IsFresh, IsBack, IsAlone}
 use Rattle.sz_attempt.specs.declared.job.Job.{Job}
 use Rattle.sz_attempt.specs.Shards.{IsJob}
-use Rattle.sz_rounds.specs.declared.round.Round.{Round}
-use Rattle.sz_rounds.specs.Rounds.{IsRound}
-use Rattle.sz_rounds.specs.Tickets.{IsPlanOf, tickets_upto}
+use Rattle.sz_workers.specs.declared.round.Round.{Round}
+use Rattle.sz_workers.specs.Rounds.{IsRound}
+use Rattle.sz_workers.specs.RoundTickets.{IsPlanOf, tickets_upto}
 use Rattle.sz_workers.specs.Parts.{plan_for}
 use Rattle.sz_workers.specs.RoundRuns.{IsSet}
 use Rattle.sz_workers.specs.Starting.{HoldsNothing, CanWork, lanes_for}
 
 -- a worker whose pass holds nothing, and whose pocket is empty, is at work
-pub begins_work : (v : PassData) (pocket : LaneData) → HoldsNothing v → IsPlan v.ledger.plan → IsLegal v.ledger.plan v.ledger.lanes v.seen
+pub begins_work : (v : PassData) (pocket : LaneData) → HoldsNothing v → IsPlan v.ledger.plan
+    → IsLegal v.ledger.plan v.ledger.lanes v.seen
     → calls_by v.number v.seen ≡ v.mine → pocket.plan ≡ v.ledger.plan → pocket.shards ≡ [] → IsAtWork v pocket
 begins_work v pocket h is legal own plan none = record {
   place = record { plan = is; legal = legal; own = own };
@@ -42,13 +43,14 @@ fresh_holds ledger n v f = record {
 }
 
 -- a worker that is done is back
-pub is_back : (ledger : LedgerData) (v w : PassData) (pocket : LaneData) → Goes v w → IsPocket w.mine pocket → v.lane ≡ 0 → v.ledger ≡ ledger
-    → IsBack ledger v.number w pocket
+pub is_back : (ledger : LedgerData) (v w : PassData) (pocket : LaneData) → Goes v w → IsPocket w.mine pocket
+    → v.lane ≡ 0 → v.ledger ≡ ledger → IsBack ledger v.number w pocket
 is_back ledger v w pocket goes keeps none of =
     record { of = goes.ledger ∙ of; number = goes.number; home = goes.lane ∙ none; keeps = keeps }
 
 -- a worker that has drawn no ticket
-pub in_place : (v : PassData) → IsPlan v.ledger.plan → IsLegal v.ledger.plan v.ledger.lanes v.seen → calls_by v.number v.seen ≡ v.mine → IsInPlace v
+pub in_place : (v : PassData) → IsPlan v.ledger.plan → IsLegal v.ledger.plan v.ledger.lanes v.seen
+    → calls_by v.number v.seen ≡ v.mine → IsInPlace v
 in_place v plan legal own = record { plan = plan; legal = legal; own = own }
 
 pub not_begun : (died : ℕ → ℕ → Type 0) (is_bad : ℕ → Type 0) (p : PlanData) (v : PassData) → HasBegun died is_bad p v v
@@ -59,7 +61,8 @@ pub err_any : {A E : Type 0} (r : Result A E) (P : Type 0) → P → IfErr r (λ
 err_any (Ok a) P p = tt
 err_any (Err e) P p = p
 
-pub is_pocket : (v : PassData) (pocket : LaneData) → AreInHand pocket.shards v.mine → HasAllWon v pocket → IsPocket v.mine pocket
+pub is_pocket : (v : PassData) (pocket : LaneData) → AreInHand pocket.shards v.mine → HasAllWon v pocket
+    → IsPocket v.mine pocket
 is_pocket v pocket hand all = record { hand = hand; all = all }
 
 -- a plan of a round is the plan of the round
@@ -71,8 +74,8 @@ plan_is job round p is =
     (is.tickets ∙ ap (tickets_upto job.twice round.first_shard) is.shards)
 
 -- a round is set that is named by itself
-pub is_set : (job : Job) (round : Round) (p : PlanData) → IsJob job → IsRound round → round.passed ≤ job.skip → (1 ≤ job.attempts) × (job.attempts ≤ 8)
-    → IsPlanOf job round p → IsSet job round job round p
+pub is_set : (job : Job) (round : Round) (p : PlanData) → IsJob job → IsRound round → round.passed ≤ job.skip
+    → (1 ≤ job.attempts) × (job.attempts ≤ 8) → IsPlanOf job round p → IsSet job round job round p
 is_set job round p job_is round_is passed attempts of = record {
   job_is = refl;
   round_is = refl;
@@ -85,8 +88,8 @@ is_set job round p job_is round_is passed attempts of = record {
 }
 
 -- the ledger of a round that is set
-pub can_work : (named : Job) (of : Round) (job : Job) (round : Round) (p : PlanData) (ledger : LedgerData) → IsSet named of job round p → ledger.plan ≡ p
-    → CanWork named of job round ledger
+pub can_work : (named : Job) (of : Round) (job : Job) (round : Round) (p : PlanData) (ledger : LedgerData)
+    → IsSet named of job round p → ledger.plan ≡ p → CanWork named of job round ledger
 can_work named of job round p ledger set is = record {
   job_is = set.job_is;
   round_is = set.round_is;
@@ -98,7 +101,8 @@ can_work named of job round p ledger set is = record {
 }
 
 -- a first pass that has done nothing yet
-pub is_alone : (ledger : LedgerData) (v : PassData) (limit : ℕ) → IsPlan ledger.plan → v ≡ first_pass ledger limit → IsAlone ledger 0 v
+pub is_alone : (ledger : LedgerData) (v : PassData) (limit : ℕ) → IsPlan ledger.plan → v ≡ first_pass ledger limit
+    → IsAlone ledger 0 v
 is_alone ledger v limit plan is = subst (IsAlone ledger 0) (sym is) (record {
   none = record { plan = plan; of = refl; first = refl; silent = refl; home = refl; accounts = tt };
   joined = refl;
@@ -114,12 +118,13 @@ pub lanes_few : (count lanes : ℕ) → lanes ≡ lanes_for count → count ≤ 
 lanes_few count lanes is few = let t = div_ceil_times count 2 (omega arith) in omega (arith, is, few, t.1)
 
 -- the number of the lane of a worker
-pub lane_low : (number count lanes there : ℕ) → lanes ≡ lanes_for count → there ≡ lanes_for count → 1 ≤ count → number % lanes < there
+pub lane_low : (number count lanes there : ℕ) → lanes ≡ lanes_for count → there ≡ lanes_for count → 1 ≤ count
+    → number % lanes < there
 lane_low number count lanes there is same some =
     let low = mod-lt number (lanes_some count lanes is some) in omega (arith, low, is, same)
 
 -- one empty lane more
-pub one_more_empty : (p : PlanData) (lanes : List LaneData) (lane : LaneData) → AreEmpty p lanes → lane.plan ≡ p → lane.shards ≡ []
-    → AreEmpty p (lanes ++ lane ∷ [])
+pub one_more_empty : (p : PlanData) (lanes : List LaneData) (lane : LaneData) → AreEmpty p lanes → lane.plan ≡ p
+    → lane.shards ≡ [] → AreEmpty p (lanes ++ lane ∷ [])
 one_more_empty p [] lane h plan none = (plan, none, tt)
 one_more_empty p (l ∷ ls) lane h plan none = (h.0, h.1, one_more_empty p ls lane h.2 plan none)

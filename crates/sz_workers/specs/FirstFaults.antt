@@ -15,4 +15,5 @@ merged zero xs ys = []
 merged (suc n) [] [] = []
 merged (suc n) (x ∷ xs) [] = x ∷ merged n xs []
 merged (suc n) [] (y ∷ ys) = y ∷ merged n [] ys
-merged (suc n) (x ∷ xs) (y ∷ ys) = if nat_le x.record_no y.record_no then x ∷ merged n xs (y ∷ ys) else y ∷ merged n (x ∷ xs) ys
+merged (suc n) (x ∷ xs) (y ∷ ys) =
+    if nat_le x.record_no y.record_no then x ∷ merged n xs (y ∷ ys) else y ∷ merged n (x ∷ xs) ys

@@ -10,9 +10,9 @@ use Rattle.sz_attempt.specs.Shards.{ShardData, IsJob}
 use Rattle.sz_attempt.specs.Yields.{Faulting, Yield}
 use Rattle.sz_attempt.specs.Attempts.{shard_means, is_lost, end_of, dies_at, HasTooMany}
 use Rattle.sz_attempt.specs.Ends.{StandForEmits, seen_faults}
-use Rattle.sz_rounds.specs.declared.round.Round.{Round}
-use Rattle.sz_rounds.specs.Rounds.{shards_of, IsRound}
-use Rattle.sz_rounds.specs.Tickets.{tickets_upto}
+use Rattle.sz_workers.specs.declared.round.Round.{Round}
+use Rattle.sz_workers.specs.Rounds.{shards_of, IsRound}
+use Rattle.sz_workers.specs.RoundTickets.{tickets_upto}
 use Rattle.sz_workers.specs.declared.first_faults.FirstFaults.{FirstFaults}
 
 -- the plan of a round
@@ -68,14 +68,16 @@ abbrev pub gathered : {A : Type 0} → (ℕ → List A) → List ℕ → List A
 gathered f [] = []
 gathered f (s ∷ ss) = f s ++ gathered f ss
 
--- The records are the first of the round that fault in these shards, one more than may be passed over; with no shard there may be room for none
+-- The records are the first of the round that fault in these shards, one more than may be passed over; with no shard
+-- there may be room for none
 pub record HasFirst (job : Job) (round : Round) (part : FirstFaults) (ss : List ℕ) : Type 0 where
   pub first : seen_faults part.faults ≡ take (suc job.skip) (faults_from job ss 0 (shards_of round))
   pub most : ((ss ≡ []) × (part.most ≡ 0)) ⊎ (part.most ≡ suc job.skip)
 
--- The tables stand for the emits of these shards of the round, each once, and the records are the first of theirs that fault. None of the
--- shards is bad or lost
-pub record HoldsShards (job : Job) (round : Round) (total : TotalState) (first : FirstFaults) (ss : List ℕ) : Type 0 where
+-- The tables stand for the emits of these shards of the round, each once, and the records are the first of theirs
+-- that fault. None of the shards is bad or lost
+pub record HoldsShards (job : Job) (round : Round) (total : TotalState) (first : FirstFaults)
+    (ss : List ℕ) : Type 0 where
   pub job_is : IsJob job
   pub round_is : IsRound round
   pub distinct : AreDistinct ss

@@ -1,14 +1,14 @@
 //! Attempts on the shards of a round.
 ghost use Rattle.std.specs.Prelude.{◌<◌, length, IfOk};
 ghost use Rattle.sz_attempt.specs.Shards.{IsJob};
-ghost use Rattle.sz_rounds.specs.Rounds.{IsRound};
+ghost use Rattle.sz_workers.specs.Rounds.{IsRound};
 ghost use Rattle.sz_workers.specs.Ends.{IsEndOf};
 
+use crate::Round;
 use std::alloc::Global;
 use sz_attempt::{AttemptEnd, Job, attempt_in};
 use sz_io::Gate;
 use sz_machine::Room;
-use sz_rounds::Round;
 use sz_value::NoMemory;
 
 /// Runs an attempt of the shard at a place of the round. The gate is called before.

@@ -1,22 +1,21 @@
 //! The attempts of a round, made by a worker.
 ghost use Rattle.std.specs.Prelude.{◌≡◌, ◌<◌, [], ◌∷◌, IfOk, OnOk, IfErr};
 ghost use Rattle.sz_attempt.specs.Shards.{IsJob};
-ghost use Rattle.sz_rounds.specs.Rounds.{IsRound, shards_of};
+ghost use Rattle.sz_workers.specs.Rounds.{IsRound, shards_of};
 ghost use Rattle.sz_workers.specs.Ends.{IsEndOf};
-ghost use Rattle.sz_workers_loop.specs.Makers.{IsTrueMiss, GivesEmits};
+ghost use Rattle.sz_workers.specs.Makers.{IsTrueMiss, GivesEmits};
 ghost use Rattle.sz_workers.specs.Parts.{Dies, Bad, HoldsShards};
 
 use crate::attempts::run_attempt;
 use crate::first_faults::first_faults;
 use crate::part::{RoundName, RoundPart};
+use crate::{Maker, Missed, Round};
 use std::alloc::Global;
 use std::marker::{Model, PhantomData};
 use sz_attempt::{AttemptEnd, Job};
 use sz_book::Claim;
 use sz_io::Gate;
 use sz_machine::Room;
-use sz_rounds::Round;
-use sz_workers_loop::{Maker, Missed};
 
 /// Makes the attempts of a round in a room of its own.
 #[derive(Drop)]
@@ -33,7 +32,7 @@ impl<'a, 'r, G: Gate, N: RoundName> Model for RoundMaker<'a, 'r, G, N> {
     ghost use Rattle.std.specs.Prelude.{◌≡◌};
     ghost use Rattle.sz_book_rules.specs.Plan.{PlanData};
     ghost use Rattle.sz_attempt.specs.Shards.{IsJob};
-    ghost use Rattle.sz_rounds.specs.Rounds.{IsRound};
+    ghost use Rattle.sz_workers.specs.Rounds.{IsRound};
     ghost use Rattle.sz_workers.specs.Parts.{plan_for};
 
     ghost Value = { PlanData };

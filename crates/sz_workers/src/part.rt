@@ -5,8 +5,8 @@ ghost use Rattle.sz_book_rules.specs.History.{AreApart};
 ghost use Rattle.sz_book_rules.specs.Plan.{IsPlan};
 ghost use Rattle.sz_attempt.specs.declared.job.Job.{Job};
 ghost use Rattle.sz_attempt.specs.Shards.{IsJob};
-ghost use Rattle.sz_rounds.specs.declared.round.Round.{Round};
-ghost use Rattle.sz_rounds.specs.Rounds.{shards_of, IsRound};
+ghost use Rattle.sz_workers.specs.declared.round.Round.{Round};
+ghost use Rattle.sz_workers.specs.Rounds.{shards_of, IsRound};
 ghost use Rattle.sz_workers.specs.Parts.{plan_for, Dies, Bad, HoldsShards};
 
 use crate::first_faults::{FirstFaults, first_of_both, no_faults};

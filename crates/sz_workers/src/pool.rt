@@ -3,8 +3,8 @@ ghost use Rattle.std.specs.Prelude.{◌≡◌, ◌≤◌, ◌++◌, ◌∷◌, [
 ghost use Rattle.sz_mean.specs.Marked.{all_tables};
 ghost use Rattle.sz_book_rules.specs.History.{IsAmong, AreApart, AreDistinct};
 ghost use Rattle.sz_attempt.specs.Shards.{IsJob};
-ghost use Rattle.sz_rounds.specs.Rounds.{IsRound};
-ghost use Rattle.sz_workers_loop.specs.Closing.{shards_in};
+ghost use Rattle.sz_workers.specs.Rounds.{IsRound};
+ghost use Rattle.sz_workers.specs.Closing.{shards_in};
 ghost use Rattle.sz_workers.specs.Parts.{plan_for, HoldsShards};
 
 use crate::part::{RoundName, RoundPart};

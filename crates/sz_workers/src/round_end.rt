@@ -1,8 +1,8 @@
 //! The end of a round whose workers are done: the shards that none of them settled, and what comes of all.
 ghost use Rattle.std.specs.Prelude.{◌≡◌, ◌++◌, ◌∷◌, [], ◌+◌, ◌-◌, ◌^◌, ◌<◌, ◌≤◌, ◌==◌, length, IfOk, IfSome, IfNone};
 ghost use Rattle.sz_attempt.specs.Shards.{IsJob};
-ghost use Rattle.sz_rounds.specs.Outcomes.{outcome_from};
-ghost use Rattle.sz_rounds.specs.Rounds.{IsRound, shards_of, EndsRound};
+ghost use Rattle.sz_workers.specs.Outcomes.{outcome_from};
+ghost use Rattle.sz_workers.specs.Rounds.{IsRound, shards_of, EndsRound};
 ghost use Rattle.sz_workers.specs.Parts.{HoldsShards};
 ghost use Rattle.sz_book_rules.specs.History.{IsAmong};
 ghost use Rattle.sz_workers.specs.RoundRuns.{IsSet, AreWords, HasFront, IsPooled, NoneInFront, RestEnds, one_too_many, in_front};
@@ -11,13 +11,13 @@ use crate::attempts::run_attempt;
 use crate::first_faults::{first_faults, first_of_both};
 use crate::part::{RoundName, RoundPart};
 use crate::pool::{Pool, add_shard};
+use crate::{Round, RoundEnd};
 use std::alloc::Global;
 use std::marker::PhantomData;
 use sz_attempt::{AttemptEnd, Faults, Job, Skipped};
 use sz_book::{NoMemory, Plan, Words};
 use sz_io::Gate;
 use sz_machine::Room;
-use sz_rounds::{Round, RoundEnd};
 use sz_total::{Total, tables_forget_the_order};
 
 /// What comes of a shard that the caller runs.

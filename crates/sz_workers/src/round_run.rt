@@ -5,9 +5,9 @@ ghost use Rattle.sz_mean.specs.Marked.{all_tables};
 ghost use Rattle.sz_book_rules.specs.Plan.{count_of};
 ghost use Rattle.sz_claims.specs.Known.{LedgerData, AreEmpty};
 ghost use Rattle.sz_attempt.specs.Shards.{IsJob};
-ghost use Rattle.sz_rounds.specs.Outcomes.{outcome_from};
-ghost use Rattle.sz_rounds.specs.Rounds.{IsRound, shards_of, EndsRound};
-ghost use Rattle.sz_workers_loop.specs.Closing.{AreFresh, AreBack, IsAlone, IsBack, IsLeft};
+ghost use Rattle.sz_workers.specs.Outcomes.{outcome_from};
+ghost use Rattle.sz_workers.specs.Rounds.{IsRound, shards_of, EndsRound};
+ghost use Rattle.sz_workers.specs.Closing.{AreFresh, AreBack, IsAlone, IsBack, IsLeft};
 ghost use Rattle.sz_workers.specs.Parts.{plan_for, Dies};
 ghost use Rattle.sz_workers.specs.RoundRuns.{IsSet};
 ghost use Rattle.sz_workers.specs.Starting.{CanWork, lanes_for};
@@ -16,6 +16,7 @@ use crate::part::{RoundName, RoundPart, empty_lane};
 use crate::pool::{empty_pool, pour_all};
 use crate::round_end::finish;
 use crate::worker::{Back, Worker};
+use crate::{Round, RoundEnd, close_all, plan_of};
 use std::alloc::Global;
 use std::marker::Brand;
 use std::thread::Threads;
@@ -24,9 +25,7 @@ use sz_attempt::Job;
 use sz_book::{Closed, Lane, NoMemory, Plan};
 use sz_claims::{Ledger, Pass};
 use sz_io::Gate;
-use sz_rounds::{Round, RoundEnd, plan_of};
 use sz_types::TableDecls;
-use sz_workers_loop::close_all;
 
 /// Runs the attempts of a round by so many workers. The gate is called before each attempt, with the number of the shard in the input.
 ///

@@ -1,15 +1,17 @@
 //! What one thread does for a round.
 ghost use Rattle.std.specs.Prelude.{◌≡◌, ◌<◌, ◌≤◌, IfOk, IfErr};
 ghost use Rattle.sz_attempt.specs.Shards.{IsJob};
-ghost use Rattle.sz_rounds.specs.Rounds.{IsRound, shards_of};
-ghost use Rattle.sz_workers_loop.specs.Working.{Goes, IsInPlace};
-ghost use Rattle.sz_workers_loop.specs.Advances.{HasWorked, HasBegun};
-ghost use Rattle.sz_workers_loop.specs.Closing.{IsPocket, IsBack};
+ghost use Rattle.sz_workers.specs.Rounds.{IsRound, shards_of};
+ghost use Rattle.sz_workers.specs.Working.{Goes, IsInPlace};
+ghost use Rattle.sz_workers.specs.Advances.{HasWorked, HasBegun};
+ghost use Rattle.sz_workers.specs.Closing.{IsPocket, IsBack};
 ghost use Rattle.sz_workers.specs.Parts.{plan_for, Dies, Bad};
 ghost use Rattle.sz_workers.specs.Starting.{HoldsNothing};
 
+use crate::Round;
 use crate::making::RoundMaker;
 use crate::part::{RoundName, RoundPart, empty_lane};
+use crate::working::run_tickets;
 use std::alloc::Global;
 use std::marker::{Model, PhantomData};
 use sz_attempt::Job;
@@ -17,7 +19,6 @@ use sz_book::{Lane, NoMemory};
 use sz_claims::{Ledger, Pass};
 use sz_io::Gate;
 use sz_machine::Room;
-use sz_rounds::Round;
 
 /// Draws tickets of the ledger until none is left, and runs their attempts. The part of a shard that it wins goes into the lane with
 /// this number where no other worker has it, and else into the pocket that is given back. The gate is called before each attempt.
@@ -62,7 +63,7 @@ pub fn work<'a, N: RoundName, G: Gate + Sync>(
         gate,
         of: PhantomData,
     };
-    sz_workers_loop::work(&mut maker, ledger, pass, &mut pocket, lane_no)?;
+    run_tickets(&mut maker, ledger, pass, &mut pocket, lane_no)?;
     Ok(pocket)
 }
 

@@ -30,7 +30,8 @@ weight_number _ = None
 
 -- the emit to a table with these indexes and this value, if they are defined, and with this weight, if it has one
 abbrev pub emit_with : ℕ → Option (List Datum) → Slot → Option ℤ → Option EmitDatum
-emit_with table (Some indexes) (Some value) weight = Some (record { table = table; indexes = indexes; value = value; weight = weight })
+emit_with table (Some indexes) (Some value) weight =
+    Some (record { table = table; indexes = indexes; value = value; weight = weight })
 emit_with table _ _ weight = None
 
 -- the same where there is to be a weight: there is no emit where the weight is undefined
@@ -58,9 +59,15 @@ emit_weight parts = weight_if_all (all_defined (slots_of parts))
 
 -- the emit that counts the line of a place of the text, to a table of lines
 abbrev pub line_emit : ℕ → Place → EmitDatum
-line_emit table place = record { table = table; indexes = int (pos place.line) ∷ []; value = int (pos 1); weight = None }
+line_emit table place = record {
+  table = table;
+  indexes = int (pos place.line) ∷ [];
+  value = int (pos 1);
+  weight = None;
+}
 
--- what is emitted at a place: the emit, if there is one, else the one that counts the line, where there is a table of lines
+-- what is emitted at a place: the emit, if there is one, else the one that counts the line, where there is a table of
+-- lines
 abbrev pub emit_or_line : Option EmitDatum → Option ℕ → Place → Option EmitDatum
 emit_or_line (Some e) counting place = Some e
 emit_or_line None None place = None

@@ -31,13 +31,15 @@ with_part ds n change = changed (slice_get ds n)
 
 -- a value with a change to what is one step inside it. A key that isn't there is undefined before the change.
 abbrev pub with_change : Way → Datum → (Slot → Option Datum) → Option Datum
-with_change (to_element (int (pos n))) (array ds) change = option_map (λ es. array (data_of es)) (with_part (parts_of ds) n change)
+with_change (to_element (int (pos n))) (array ds) change =
+    option_map (λ es. array (data_of es)) (with_part (parts_of ds) n change)
 with_change (to_element key) (mapping es) change =
     option_map (λ d. mapping (entries_of (with_pair key d (pairs_of es)))) (change (value_at key (pairs_of es)))
 with_change (to_part n) (tuple ds) change = option_map (λ es. tuple (data_of es)) (with_part (parts_of ds) n change)
 with_change _ _ change = None
 
--- what a slot becomes with a new value where the ways lead. No way leads on from what is undefined, and none out of an array.
+-- what a slot becomes with a new value where the ways lead. No way leads on from what is undefined, and none out of
+-- an array.
 abbrev pub replaced : List Way → Datum → Slot → Option Datum
 replaced [] new old = Some new
 replaced (way ∷ ways) new None = None

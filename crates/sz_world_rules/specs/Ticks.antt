@@ -35,7 +35,8 @@ abbrev pub builtin_weight : Builtin → Slot → ℕ
 builtin_weight Keys result = result_weight result
 builtin_weight _ result = 0
 
--- a conversion to a type adds the result's weight where it makes a string or bytes of another value, or a message of bytes
+-- a conversion to a type adds the result's weight where it makes a string or bytes of another value, or a message of
+-- bytes
 abbrev pub conversion_weight : Shape → Slot → Slot → ℕ
 conversion_weight Shape.str (Some (str s)) result = 0
 conversion_weight Shape.str from result = result_weight result

@@ -1,7 +1,7 @@
 -- Which types slots have: an undefined one has every type.
 use Rattle.std.specs.Prelude.{◌≡◌, List, [], ◌∷◌, true, IfSome}
 use Rattle.sz_types.specs.Data.{Shape}
-use Rattle.sz_typing_rules.specs.Types.{has_type}
+use Rattle.sz_types.specs.Types.{has_type}
 use Rattle.sz_world_rules.specs.Slots.{Slot}
 
 -- the slot has the type: it is undefined, or its value has it

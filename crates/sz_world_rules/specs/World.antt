@@ -1,4 +1,5 @@
--- What a run changes: the ticks that are left and the emits so far. It is passed from each thing that is done to the next.
+-- What a run changes: the ticks that are left and the emits so far. It is passed from each thing that is done to the
+-- next.
 use Rattle.std.specs.Prelude.{ℕ, zero, suc, ◌-◌, nat_lt, if◌then◌else◌, List, [], Option, Some, None}
 use Rattle.sz_types.specs.declared.place.Place.{Place}
 use Rattle.sz_tabs.specs.Data.{EmitDatum}

@@ -12,8 +12,8 @@ use Rattle.sz_words.specs.declared.settings.Settings.{Settings}
 use Rattle.sz_words.specs.declared.error.WordsError.{WordsError}
 use Rattle.sz_words.specs.declared.error.WordsError.TheVariants as words_errors
 use Rattle.sz_words.specs.Settings.{settings_in}
-use Rattle.sz_protofile_rules.specs.Types.{TypeShape}
-use Rattle.sz_protofile_laws.specs.Readings.{FileReading, bad_file, with_types}
+use Rattle.sz_protofile.specs.Types.{TypeShape}
+use Rattle.sz_protofile_types.specs.Readings.{FileReading, bad_file, with_types}
 use Rattle.szl.specs.declared.status.Status.{Status}
 use Rattle.szl.specs.declared.status.Status.TheVariants as status
 use Rattle.szl.specs.declared.failure.Failure.{Failure}

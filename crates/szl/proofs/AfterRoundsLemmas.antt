@@ -17,20 +17,20 @@ use Rattle.sz_mean.specs.Marked.{all_tables}
 use Rattle.sz_print.specs.Tables.{lists_text, tables_text}
 use Rattle.sz_save_format.specs.Saved.{SavedState, CanBeSaved}
 use Rattle.sz_save.specs.Saving.{state_of_emits}
-use Rattle.sz_save_laws.specs.Laws.{given}
-use Rattle.sz_save_laws.specs.Runs.{Run, HasTextOfOne}
+use Rattle.sz_merge.specs.JoiningLaws.{given}
+use Rattle.sz_merge.specs.Runs.{Run, HasTextOfOne}
 use Rattle.sz_machine.specs.Ends.{seen_fault}
 use Rattle.sz_records.specs.declared.ending.Ending.{Ending}
 use Rattle.sz_records.specs.declared.ending.Ending.TheVariants.{Whole, Damaged, Limit}
 use Rattle.sz_attempt.specs.declared.job.Job.{Job}
-use Rattle.sz_rounds.specs.Outcomes.{ShardsEnd, emitted, faulted, lost, outcome_of}
+use Rattle.sz_workers.specs.Outcomes.{ShardsEnd, emitted, faulted, lost, outcome_of}
 use Rattle.sz_stream.specs.declared.stop.Stop.TheVariants as stops
 use Rattle.sz_words.specs.declared.settings.RunSettings.{RunSettings}
-use Rattle.sz_journal_format.specs.declared.job.JobBytes.{JobBytes}
-use Rattle.sz_journal_format.specs.declared.round.RoundEntry.{RoundEntry}
-use Rattle.sz_journal_format.specs.Rounds.{last_progress}
-use Rattle.sz_gates.specs.Entries.{end_of}
-use Rattle.sz_journal_rules.specs.Journals.{Spelled, entries_of}
+use Rattle.sz_journal.specs.declared.job.JobBytes.{JobBytes}
+use Rattle.sz_journal.specs.declared.round.RoundEntry.{RoundEntry}
+use Rattle.sz_journal.specs.Rounds.{last_progress}
+use Rattle.sz_disk.specs.Entries.{end_of}
+use Rattle.sz_journal.specs.Journals.{Spelled, entries_of}
 use Rattle.sz_journal.specs.declared.journal.Journal.{Journal}
 use Rattle.sz_journal.specs.Journal.{rounds_of, IsOf}
 use Rattle.sz_journal.specs.Journal as journals

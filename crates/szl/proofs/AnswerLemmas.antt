@@ -4,7 +4,7 @@ use Rattle.std.proofs.Common.{refl, sym, ap, ◌∙◌, subst, arith}
 use Rattle.std.specs.Prelude.{unwrap_or, Result, Ok, Err, slice_get, nat_le, ◌&&◌, if◌then◌else◌}
 use Rattle.std.proofs.lemmas.List.Elements.{filter_agree}
 use Rattle.sz_types.specs.declared.frame.Frame.{Frame}
-use Rattle.sz_protofile_rules.specs.Types.{TypeShape}
+use Rattle.sz_protofile.specs.Types.{TypeShape}
 use Rattle.sz_io.specs.Rose.{Rose}
 use Rattle.sz_io.specs.declared.files.Files as files
 use Rattle.sz_tree.specs.Statements.{Stms}
@@ -28,8 +28,8 @@ use Rattle.sz_gen_rules.specs.Simulates.{static_types}
 use Rattle.sz_words.specs.Bounds.{HasBounds}
 use Rattle.sz_attempt.specs.Yields.{Faulting, Yield, both, yield_of, means}
 use Rattle.sz_attempt.specs.Attempts.{shard_means, passes, has_effect, deaths_of, least_of, kills_of, end_by, is_lost, all_die, dies_at, end_of}
-use Rattle.sz_rounds.specs.Outcomes.{ShardsEnd, emitted, faulted, lost, then_shards, outcome_from, outcome_of}
-use Rattle.sz_rounds.specs.Cuts.{cut_into}
+use Rattle.sz_workers.specs.Outcomes.{ShardsEnd, emitted, faulted, lost, then_shards, outcome_from, outcome_of}
+use Rattle.sz_workers.specs.Cuts.{cut_into}
 use Rattle.szl.specs.declared.status.Status.TheVariants as status
 use Rattle.szl.specs.declared.failure.Failure.{Failure}
 use Rattle.szl.specs.declared.failure.Failure.TheVariants as failure

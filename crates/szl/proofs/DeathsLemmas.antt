@@ -5,7 +5,7 @@ use Rattle.std.proofs.Common.{length, slice_get, if◌then◌else◌, refl, sym,
 use Rattle.std.specs.List.{AllByRecursion}
 use Rattle.sz_mean.specs.Marked.{Marked}
 use Rattle.sz_mean.specs.Programs.{mean, statics}
-use Rattle.sz_protofile_laws.specs.Readings.{FileReading, bad_file, with_types}
+use Rattle.sz_protofile_types.specs.Readings.{FileReading, bad_file, with_types}
 use Rattle.sz_world_rules.specs.Slots.{Slot}
 use Rattle.sz_world_rules.specs.World.{Done, Faulted}
 use Rattle.sz_world_rules.specs.World as world
@@ -16,7 +16,7 @@ use Rattle.sz_attempt.specs.declared.job.Job.{Job}
 use Rattle.sz_attempt.specs.Shards.{ShardData}
 use Rattle.sz_attempt.specs.Yields.{Yield, both, yield_of, means}
 use Rattle.sz_attempt.specs.Attempts.{gives, fails, dies_at, passes, shard_means, all_die, is_lost}
-use Rattle.sz_rounds.specs.Outcomes.{lost, then_shards, outcome_from}
+use Rattle.sz_workers.specs.Outcomes.{lost, then_shards, outcome_from}
 use Rattle.sz_refusals.specs.declared.refusal.Refusal.{Refusal}
 use Rattle.szl.specs.Judgement.{Reading, refused, spells}
 use Rattle.szl.specs.Merging.{Merged}

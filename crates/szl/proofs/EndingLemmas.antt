@@ -10,7 +10,7 @@ use Rattle.sz_total.specs.States.{declarations, emit_count, shown}
 use Rattle.sz_total.specs.Totals.{StandsFor}
 use Rattle.sz_attempt.specs.declared.job.Job.{Job}
 use Rattle.sz_records.specs.declared.ending.Ending.{Ending}
-use Rattle.sz_rounds.specs.Outcomes.{ShardsEnd, outcome_of}
+use Rattle.sz_workers.specs.Outcomes.{ShardsEnd, outcome_of}
 use Rattle.sz_stream.specs.declared.stop.Stop.{Stop}
 use Rattle.sz_stream.specs.declared.stop.Stop.TheVariants as stops
 use Rattle.sz_stream.specs.declared.tables.InputTables.{InputTables}

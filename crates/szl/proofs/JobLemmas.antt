@@ -7,8 +7,8 @@ use Rattle.sz_io.specs.Rose.{Rose}
 use Rattle.sz_io.specs.declared.files.Files as files
 use Rattle.sz_disk.specs.Crashes.{Images, are_told}
 use Rattle.sz_disk.specs.declared.disk.Disk as disks
-use Rattle.sz_gates.specs.Crashing.{LeavesOnly}
-use Rattle.sz_gates.proofs.ForCallers.{leaves_if, leaves_both}
+use Rattle.sz_disk.specs.Crashing.{LeavesOnly}
+use Rattle.sz_disk.proofs.GateForCallers.{leaves_if, leaves_both}
 use Rattle.sz_mean.specs.Marked.{Marked, all_tables}
 use Rattle.sz_mean.specs.Programs.{statics}
 use Rattle.sz_machine.specs.Ends.{seen_fault}
@@ -17,14 +17,14 @@ use Rattle.sz_world_rules.specs.World.{Outcome, Done, Faulted}
 use Rattle.sz_world_rules.specs.Slots.{Slot}
 use Rattle.sz_attempt.specs.declared.job.Job.{Job}
 use Rattle.sz_records.specs.declared.ending.Ending.TheVariants.{Whole}
-use Rattle.sz_rounds.specs.Outcomes.{emitted, outcome_of}
+use Rattle.sz_workers.specs.Outcomes.{emitted, outcome_of}
 use Rattle.sz_words.specs.declared.settings.RunSettings.{RunSettings}
-use Rattle.sz_journal_format.specs.declared.job.JobBytes.{JobBytes}
-use Rattle.sz_journal_format.specs.declared.round.RoundEntry.{RoundEntry}
-use Rattle.sz_journal_format.specs.Rounds.{last_progress, AreRounds}
-use Rattle.sz_journal_rules.specs.Journals.{Standing, Empty, OtherJob, DamagedAt, Spelled, Spells}
-use Rattle.sz_journal_rules.specs.Journals as stand
-use Rattle.sz_journal_rules.specs.Laws.{IsOneStanding}
+use Rattle.sz_journal.specs.declared.job.JobBytes.{JobBytes}
+use Rattle.sz_journal.specs.declared.round.RoundEntry.{RoundEntry}
+use Rattle.sz_journal.specs.Rounds.{last_progress, AreRounds}
+use Rattle.sz_journal.specs.Journals.{Standing, Empty, OtherJob, DamagedAt, Spelled, Spells}
+use Rattle.sz_journal.specs.Journals as stand
+use Rattle.sz_journal.specs.Laws.{IsOneStanding}
 use Rattle.sz_journal.specs.declared.journal.Journal.{Journal}
 use Rattle.sz_journal.specs.Journal.{rounds_of, IsOf, KeepsRounds}
 use Rattle.sz_journal.specs.Opening.{FitsAnswer, FitsError, IsKept}

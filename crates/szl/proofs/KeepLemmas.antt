@@ -9,15 +9,15 @@ use Rattle.sz_attempt.specs.Shards.{ShardData}
 use Rattle.sz_disk.specs.Calls.{AreAmong}
 use Rattle.sz_disk.specs.Crashes.{Images, are_told}
 use Rattle.sz_disk.specs.declared.disk.Disk as disks
-use Rattle.sz_gates.specs.Crashing.{Rests, LeavesOnly}
-use Rattle.sz_gates.specs.Entries.{IsEmpty}
-use Rattle.sz_gates.proofs.ForCallers.{the_image, leaves_if, leaves_none, leaves_both}
-use Rattle.sz_journal_format.specs.declared.job.JobBytes.{JobBytes}
-use Rattle.sz_journal_format.specs.declared.progress.Progress.{Progress}
-use Rattle.sz_journal_format.specs.declared.round.RoundEntry.{RoundEntry}
-use Rattle.sz_journal_format.specs.Rounds.{progress_of, last_progress}
-use Rattle.sz_journal_rules.specs.Journals.{Spells, Stands, Empty, Spelled}
-use Rattle.sz_journal_rules.specs.Laws.{IsOneStanding}
+use Rattle.sz_disk.specs.Crashing.{Rests, LeavesOnly}
+use Rattle.sz_disk.specs.Entries.{IsEmpty}
+use Rattle.sz_disk.proofs.GateForCallers.{the_image, leaves_if, leaves_none, leaves_both}
+use Rattle.sz_journal.specs.declared.job.JobBytes.{JobBytes}
+use Rattle.sz_journal.specs.declared.progress.Progress.{Progress}
+use Rattle.sz_journal.specs.declared.round.RoundEntry.{RoundEntry}
+use Rattle.sz_journal.specs.Rounds.{progress_of, last_progress}
+use Rattle.sz_journal.specs.Journals.{Spells, Stands, Empty, Spelled}
+use Rattle.sz_journal.specs.Laws.{IsOneStanding}
 use Rattle.sz_journal.specs.declared.journal.Journal.{Journal}
 use Rattle.sz_journal.specs.Journal.{rounds_of, KeepsRounds}
 use Rattle.sz_journal.specs.Opening.{FitsAnswer, IsKept}

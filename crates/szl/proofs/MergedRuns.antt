@@ -6,7 +6,7 @@ use Rattle.std.specs.Prelude.{Result, Ok}
 use Rattle.std.specs.List.{AllByRecursion}
 use Rattle.sz_tree.specs.Statements.{Stms}
 use Rattle.sz_types.specs.Tables.{Declaration}
-use Rattle.sz_protofile_rules.specs.Types.{TypeShape}
+use Rattle.sz_protofile.specs.Types.{TypeShape}
 use Rattle.sz_mean.specs.Marked.{Marked, all_tables}
 use Rattle.sz_mean.specs.Programs.{mean, statics}
 use Rattle.sz_world_rules.specs.World.{Outcome, Done, Faulted}
@@ -15,12 +15,12 @@ use Rattle.sz_tabs.specs.Data.{EmitDatum}
 use Rattle.sz_attempt.specs.declared.job.Job.{Job}
 use Rattle.sz_attempt.specs.Yields.{yield_of, means}
 use Rattle.sz_records.proofs.CutLaws.{records_are_few}
-use Rattle.sz_rounds.proofs.LawLemmas.{all_emits}
+use Rattle.sz_workers.proofs.LawLemmas.{all_emits}
 use Rattle.sz_words.specs.declared.settings.RunSettings.{RunSettings}
 use Rattle.sz_save_format.specs.Saved.{Saves}
 use Rattle.sz_save_format.specs.Laws.{IsOneSpelling}
-use Rattle.sz_save_laws.specs.Laws.{Joining, given, joined, given_in}
-use Rattle.sz_save_laws.specs.Runs.{Run, saved_of, together, JoinsRuns, HasTextOfOne}
+use Rattle.sz_merge.specs.JoiningLaws.{Joining, given, joined, given_in}
+use Rattle.sz_merge.specs.Runs.{Run, saved_of, together, JoinsRuns, HasTextOfOne}
 use Rattle.sz_merge.specs.Laws.{IsOneTogether}
 use Rattle.szl.specs.Answers.{Answer, success}
 use Rattle.szl.specs.Judgement.{spells}

@@ -12,11 +12,11 @@ use Rattle.sz_core.specs.WellFormed.{is_well_formed, are_parts, are_message_fiel
 use Rattle.sz_save_format.specs.Names.{HasName}
 use Rattle.sz_save_format.specs.Types as saved
 use Rattle.sz_save_format.specs.Types.{HasTypeBytes, HaveFieldBytes}
-use Rattle.sz_protofile_rules.specs.declared.scope.Scope.{Scope}
-use Rattle.sz_protofile_rules.specs.Names.{spelled, unreserved, messages_in}
-use Rattle.sz_protofile_rules.specs.Types.{TypeShape, field_count, field_counts, most_fields, HasTypes}
-use Rattle.sz_protofile_laws.specs.Sound.{AreSound}
-use Rattle.sz_protofile_laws.specs.Named.{IsFieldName, AreNamed, FieldsAreNamed, FieldsHaveNames}
+use Rattle.sz_protofile.specs.declared.scope.Scope.{Scope}
+use Rattle.sz_protofile.specs.Names.{spelled, unreserved, messages_in}
+use Rattle.sz_protofile.specs.Types.{TypeShape, field_count, field_counts, most_fields, HasTypes}
+use Rattle.sz_protofile_types.specs.Sound.{AreSound}
+use Rattle.sz_protofile_types.specs.Named.{IsFieldName, AreNamed, FieldsAreNamed, FieldsHaveNames}
 use Rattle.szl.specs.ProtoFiles.{most_file_bytes}
 use Rattle.szl.specs.ProtoReads.{HaveTypeBytes}
 

@@ -10,7 +10,7 @@ use Rattle.sz_tabs.proofs.ForCallers.{in_any_order}
 use Rattle.sz_print.specs.Tables.{lists_text, tables_text}
 use Rattle.sz_save_format.specs.Saved.{SavedState, Saves}
 use Rattle.sz_save_format.specs.Laws.{IsOneSpelling}
-use Rattle.sz_save_laws.specs.Runs.{Run, saved_of, together, AreJoined, JoinsRuns, HasTextOfOne}
+use Rattle.sz_merge.specs.Runs.{Run, saved_of, together, AreJoined, JoinsRuns, HasTextOfOne}
 use Rattle.sz_merge.specs.Laws.{IsOneTogether}
 use Rattle.sz_merge.specs.Together.{AreTogether, bounds_of, HasSameTables, HaveTables}
 use Rattle.szl.specs.Merging as ends

@@ -10,15 +10,15 @@ use Rattle.sz_io.specs.declared.files.Files as files
 use Rattle.sz_io.specs.Rose.{Rose}
 use Rattle.sz_protofile_lex.specs.Tokens.{tokens_from}
 use Rattle.sz_protofile.specs.Lines.{Reads}
-use Rattle.sz_protofile_rules.specs.declared.fault.Fault.{Fault}
-use Rattle.sz_protofile_rules.specs.Names.{messages_in}
-use Rattle.sz_protofile_rules.specs.Faults.{first_fault}
-use Rattle.sz_protofile_rules.specs.Types.{TypeShape, HasTypes, IsRefused}
+use Rattle.sz_protofile.specs.declared.fault.Fault.{Fault}
+use Rattle.sz_protofile.specs.Names.{messages_in}
+use Rattle.sz_protofile.specs.Faults.{first_fault}
+use Rattle.sz_protofile.specs.Types.{TypeShape, HasTypes, IsRefused}
 use Rattle.sz_protofile_names.specs.declared.error.ProtoError.TheVariants as proto_errors
 use Rattle.sz_protofile_names.specs.Outcome.{OrNoMemory}
-use Rattle.sz_protofile_laws.specs.Readings.{FileReading, bad_file, with_types}
-use Rattle.sz_protofile_laws.proofs.ReadingLaws.{one_reading}
-use Rattle.sz_protofile_laws.proofs.ReadingLaws as laws
+use Rattle.sz_protofile_types.specs.Readings.{FileReading, bad_file, with_types}
+use Rattle.sz_protofile_types.proofs.ReadingLaws.{one_reading}
+use Rattle.sz_protofile_types.proofs.ReadingLaws as laws
 use Rattle.szl.specs.declared.failure.Failure.{Failure}
 use Rattle.szl.specs.declared.failure.Failure.TheVariants as failure
 use Rattle.szl.specs.Failing.{status_of}

@@ -14,14 +14,14 @@ use Rattle.sz_mean.specs.Marked.{Marked}
 use Rattle.sz_mean.specs.Programs.{statics}
 use Rattle.sz_world_rules.specs.World.{Outcome, Done, Faulted}
 use Rattle.sz_world_rules.specs.Slots.{Slot}
-use Rattle.sz_protofile_rules.specs.Types.{TypeShape}
-use Rattle.sz_protofile_laws.specs.Readings.{FileReading, bad_file, with_types}
+use Rattle.sz_protofile.specs.Types.{TypeShape}
+use Rattle.sz_protofile_types.specs.Readings.{FileReading, bad_file, with_types}
 use Rattle.sz_records.specs.declared.ending.Ending.{Ending}
-use Rattle.sz_rounds.specs.Outcomes.{ShardsEnd}
+use Rattle.sz_workers.specs.Outcomes.{ShardsEnd}
 use Rattle.sz_words.specs.declared.settings.RunSettings.{RunSettings}
-use Rattle.sz_journal_format.specs.declared.job.JobBytes.{JobBytes}
-use Rattle.sz_journal_format.specs.Rounds.{last_progress}
-use Rattle.sz_journal_rules.specs.Journals.{Standing, Empty, OtherJob, DamagedAt, Spelled}
+use Rattle.sz_journal.specs.declared.job.JobBytes.{JobBytes}
+use Rattle.sz_journal.specs.Rounds.{last_progress}
+use Rattle.sz_journal.specs.Journals.{Standing, Empty, OtherJob, DamagedAt, Spelled}
 use Rattle.szl.specs.declared.status.Status.{Status}
 use Rattle.szl.specs.declared.status.Status.TheVariants as status
 use Rattle.szl.specs.declared.failure.Failure.{Failure}

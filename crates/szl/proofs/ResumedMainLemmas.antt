@@ -31,8 +31,8 @@ use Rattle.szl.specs.JournalRuns.{as_memory, AnswersJob}
 use Rattle.szl.specs.Judgement.{Reading, refused, spells}
 use Rattle.szl.specs.Resuming.{kept_job, source_of}
 use Rattle.szl.specs.Shards.{job_of}
-use Rattle.sz_protofile_laws.specs.Readings.{FileReading, bad_file, with_types}
-use Rattle.sz_journal_format.specs.declared.round.RoundEntry.{RoundEntry}
+use Rattle.sz_protofile_types.specs.Readings.{FileReading, bad_file, with_types}
+use Rattle.sz_journal.specs.declared.round.RoundEntry.{RoundEntry}
 use Rattle.sz_resume.specs.Standing.{IsFound}
 use Rattle.szl.proofs.OpenedLemmas.{opened_no_memory}
 use Rattle.szl.proofs.MainLemmas.{Ended, ended, before, unwritten, no_room, fits_done, fits_failure, line_is, fits_no_memory, alone_printed}

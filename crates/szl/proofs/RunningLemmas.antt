@@ -6,7 +6,7 @@ use Rattle.sz_world_rules.specs.Slots.{Slot}
 use Rattle.sz_world_rules.specs.Typed.{AllFit}
 use Rattle.sz_mean.specs.Marked.{Marked}
 use Rattle.sz_mean.specs.Programs.{statics}
-use Rattle.sz_machine_rules.specs.Runs.{StaticsRunTo}
+use Rattle.sz_instr.specs.Runs.{StaticsRunTo}
 use Rattle.sz_value.specs.declared.slots.Slots.{Slots}
 use Rattle.sz_machine.specs.declared.ends.StaticsEnd.{StaticsEnd}
 use Rattle.sz_machine.specs.declared.ends.StaticsEnd.TheVariants as statics_ends

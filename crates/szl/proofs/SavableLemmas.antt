@@ -7,9 +7,9 @@ use Rattle.sz_core.specs.Programs.{Core, tables_of}
 use Rattle.sz_core.specs.Sound.{IsSound}
 use Rattle.sz_mean.specs.Marked.{Marked, marked, all_tables}
 use Rattle.sz_check_rules.specs.Refusals.{Judged}
-use Rattle.sz_check_laws.specs.JudgingWithTypes.{judge_program_with}
+use Rattle.sz_check_rules.specs.JudgingWithTypes.{judge_program_with}
 use Rattle.sz_check.specs.RoundTypes.{named_shapes}
-use Rattle.sz_protofile_rules.specs.Types.{TypeShape}
+use Rattle.sz_protofile.specs.Types.{TypeShape}
 use Rattle.sz_save.specs.Saving.{HaveSpelling, is_low, are_all_low}
 use Rattle.sz_save_names.specs.Laws.{TypesHaveBytes, TablesHaveSpellings}
 use Rattle.sz_refusals.specs.declared.refusal.Refusal.{Refusal}

@@ -12,7 +12,7 @@ use Rattle.sz_tabs.specs.Data.{EmitDatum}
 use Rattle.sz_total.specs.States.{declarations, emit_count, shown}
 use Rattle.sz_total.specs.Totals.{StandsFor}
 use Rattle.sz_attempt.specs.declared.job.Job.{Job}
-use Rattle.sz_rounds.specs.Outcomes.{outcome_of}
+use Rattle.sz_workers.specs.Outcomes.{outcome_of}
 use Rattle.sz_save_format.specs.Saved.{Saves}
 use Rattle.sz_save.specs.Saving.{state_of_emits}
 use Rattle.sz_stream.specs.declared.tables.InputTables.{InputTables}
@@ -21,8 +21,8 @@ use Rattle.sz_words.specs.declared.settings.RunSettings.{RunSettings}
 use Rattle.sz_words.specs.declared.settings.Settings.{Settings}
 use Rattle.sz_words.specs.declared.settings.Settings.TheVariants.{Run, Check, Selftest, Resume, Merge}
 use Rattle.sz_words.specs.Bounds.{HasBounds}
-use Rattle.sz_protofile_rules.specs.Types.{TypeShape}
-use Rattle.sz_protofile_laws.specs.Readings.{with_types}
+use Rattle.sz_protofile.specs.Types.{TypeShape}
+use Rattle.sz_protofile_types.specs.Readings.{with_types}
 use Rattle.szl.specs.declared.failure.Failure.{Failure}
 use Rattle.szl.specs.Opening.{ReadsText}
 use Rattle.sz_refusals.specs.Texts.{IsShort, HasStatements}

@@ -4,7 +4,7 @@ use Rattle.std.proofs.Common.{Option, Some, None, refl, sym, ap, ◌∙◌, subs
 use Rattle.std.specs.Prelude.{IfSome, IsSome, IsTrue, unwrap_or, Result, Ok, Err, OnOk}
 use Rattle.std.specs.Io.KnownBytes.{IsAtEnd}
 use Rattle.sz_io.specs.Rose.{Rose}
-use Rattle.sz_protofile_rules.specs.Types.{TypeShape}
+use Rattle.sz_protofile.specs.Types.{TypeShape}
 use Rattle.sz_io.specs.Opened.{KeepsFiles}
 use Rattle.sz_io.specs.Calls.{NamesGain, OpensOne, ReadToEnd}
 use Rattle.sz_io.proofs.ForCallers.{rose_later}
@@ -41,7 +41,7 @@ use Rattle.szl.specs.Merging.{Merged, bad}
 use Rattle.szl.specs.Promise.{IfRead, OpensFiles, later_names, AreOfFiles, IsMergedFor, AreReadToEnd}
 use Rattle.szl.specs.Records.{Cut}
 use Rattle.szl.specs.Shards.{shards_in, job_of}
-use Rattle.sz_rounds.specs.Outcomes.{ShardsEnd, emitted, faulted, lost, outcome_of}
+use Rattle.sz_workers.specs.Outcomes.{ShardsEnd, emitted, faulted, lost, outcome_of}
 use Rattle.szl.specs.Settings.{frame_asked}
 use Rattle.szl.proofs.JudgementLemmas.{every_text_is_read}
 use Rattle.szl.proofs.OpeningLemmas.{holds_or}

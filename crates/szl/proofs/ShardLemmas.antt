@@ -5,8 +5,8 @@ use Rattle.std.specs.Prelude.{nat_le, ◌||◌, if◌then◌else◌}
 use Rattle.std.proofs.lemmas.Bool.Decides.{nat_tests}
 use Rattle.std.proofs.lemmas.List.Sums.{sum_by_push}
 use Rattle.sz_records.specs.Shards.{AreShards, IsShard, IsFull, bytes_in}
-use Rattle.sz_rounds.proofs.RangeLemmas.{makes_rounds}
-use Rattle.sz_rounds.specs.Cuts.{ranges_of, MakesRounds}
+use Rattle.sz_workers.proofs.RangeLemmas.{makes_rounds}
+use Rattle.sz_workers.specs.Cuts.{ranges_of, MakesRounds}
 use Rattle.szl.specs.Shards.{sizes_after, shard_sizes}
 
 take_front : {A : Type 0} (xs ys : List A) (m : ℕ) → m ≤ length xs → take m (xs ++ ys) ≡ take m xs

@@ -4,7 +4,7 @@ use Rattle.std.specs.Prelude.{IfSome, unwrap_or, Result, Err}
 use Rattle.sz_feed.specs.Feed.{file_of}
 use Rattle.sz_feed.specs.Program.{program_text}
 use Rattle.sz_io.specs.declared.files.Files as files
-use Rattle.sz_protofile_rules.specs.Types.{TypeShape}
+use Rattle.sz_protofile.specs.Types.{TypeShape}
 use Rattle.sz_words.specs.declared.settings.Settings.{Settings}
 use Rattle.sz_words.specs.declared.settings.Settings.TheVariants.{Run, Check, Selftest, Resume, Merge}
 use Rattle.szl.specs.declared.status.Status.TheVariants as status

@@ -2,8 +2,8 @@
 use Rattle.std.proofs.Common.{◌≡◌, ℕ, List, [], Option, Some, None, Result, Ok, Err, refl}
 use Rattle.sz_mean.specs.Marked.{Marked}
 use Rattle.sz_mean.specs.Programs.{statics}
-use Rattle.sz_protofile_laws.specs.Readings.{FileReading, bad_file, with_types}
-use Rattle.sz_protofile_rules.specs.Types.{TypeShape}
+use Rattle.sz_protofile_types.specs.Readings.{FileReading, bad_file, with_types}
+use Rattle.sz_protofile.specs.Types.{TypeShape}
 use Rattle.sz_words.specs.declared.settings.RunSettings.{RunSettings}
 use Rattle.sz_words.specs.declared.settings.Settings.TheVariants.{Run, Selftest}
 use Rattle.sz_world_rules.specs.World.{Done, Faulted}

@@ -2,9 +2,9 @@
 use Rattle.std.specs.Prelude.{List, Result}
 use Rattle.sz_tree.specs.Statements.{Stms}
 use Rattle.sz_core.specs.Programs.{Core}
-use Rattle.sz_check_laws.specs.JudgingWithTypes.{judge_program_with}
+use Rattle.sz_check_rules.specs.JudgingWithTypes.{judge_program_with}
 use Rattle.sz_check.specs.RoundTypes.{named_shapes}
-use Rattle.sz_protofile_rules.specs.Types.{TypeShape}
+use Rattle.sz_protofile.specs.Types.{TypeShape}
 use Rattle.sz_refusals.specs.declared.refusal.Refusal.{Refusal}
 use Rattle.sz_refusals.specs.Refusing.{judged_so}
 

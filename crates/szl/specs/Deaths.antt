@@ -6,8 +6,8 @@ use Rattle.sz_mean.specs.Marked.{Marked}
 use Rattle.sz_mean.specs.Programs.{statics}
 use Rattle.sz_world_rules.specs.World.{Done}
 use Rattle.sz_world_rules.specs.Slots.{Slot}
-use Rattle.sz_protofile_rules.specs.Types.{TypeShape}
-use Rattle.sz_protofile_laws.specs.Readings.{FileReading, with_types}
+use Rattle.sz_protofile.specs.Types.{TypeShape}
+use Rattle.sz_protofile_types.specs.Readings.{FileReading, with_types}
 use Rattle.sz_words.specs.declared.settings.Kill.{Kill}
 use Rattle.sz_words.specs.declared.settings.RunSettings.{RunSettings}
 use Rattle.sz_words.specs.declared.settings.Settings.TheVariants.{Run}

@@ -4,16 +4,16 @@ use Rattle.sz_io.specs.Rose.{Rose}
 use Rattle.sz_io.specs.declared.files.Files as files
 use Rattle.sz_journal.specs.declared.error.OpenError.{OpenError}
 use Rattle.sz_journal.specs.declared.error.OpenError.TheVariants as errors
-use Rattle.sz_journal_format.specs.declared.job.JobBytes.{JobBytes}
-use Rattle.sz_journal_format.specs.declared.round.RoundEntry.{RoundEntry}
-use Rattle.sz_journal_rules.specs.Journals.{Spelled}
+use Rattle.sz_journal.specs.declared.job.JobBytes.{JobBytes}
+use Rattle.sz_journal.specs.declared.round.RoundEntry.{RoundEntry}
+use Rattle.sz_journal.specs.Journals.{Spelled}
 use Rattle.sz_mean.specs.Marked.{Marked, all_tables}
 use Rattle.sz_mean.specs.Programs.{statics}
 use Rattle.sz_print.specs.Tables.{tables_text}
-use Rattle.sz_protofile_rules.specs.Types.{TypeShape}
+use Rattle.sz_protofile.specs.Types.{TypeShape}
 use Rattle.sz_records.specs.declared.ending.Ending.{Ending}
 use Rattle.sz_attempt.specs.declared.job.Job.{Job}
-use Rattle.sz_rounds.specs.Outcomes.{ShardsEnd, outcome_of}
+use Rattle.sz_workers.specs.Outcomes.{ShardsEnd, outcome_of}
 use Rattle.sz_world_rules.specs.World.{Done}
 use Rattle.sz_world_rules.specs.Slots.{Slot}
 use Rattle.sz_words.specs.declared.settings.RunSettings.{RunSettings}

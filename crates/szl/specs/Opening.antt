@@ -26,8 +26,8 @@ use Rattle.szl.specs.Outcome.{outcome_of_program, outcome_of_run, outcome_of_che
 use Rattle.szl.specs.Merging.{Merged}
 use Rattle.szl.specs.Promise.{AreOfFiles, IsMergedFor, OpensFiles, later_names}
 use Rattle.szl.specs.ProtoFiles.{IsFileRead, IsOfFile, proto_asked, outcome_bad_file}
-use Rattle.sz_protofile_rules.specs.Types.{TypeShape}
-use Rattle.sz_protofile_laws.specs.Readings.{FileReading}
+use Rattle.sz_protofile.specs.Types.{TypeShape}
+use Rattle.sz_protofile_types.specs.Readings.{FileReading}
 
 -- what reading a whole file says of its text: the text, that it is past the limit, that a read failed, or want of memory
 abbrev pub TellsText : List ℕ → ℕ → Failure → Type 0 → Result (List ℕ) Failure → Type 0

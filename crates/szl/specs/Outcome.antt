@@ -16,7 +16,7 @@ use Rattle.sz_words.specs.declared.settings.RunSettings.{RunSettings}
 use Rattle.sz_words.specs.declared.settings.Settings.{Settings}
 use Rattle.sz_words.specs.declared.settings.Settings.TheVariants.{Run, Check, Selftest, Merge}
 use Rattle.sz_words.specs.Settings.{settings_in}
-use Rattle.sz_rounds.specs.Outcomes.{ShardsEnd, emitted, faulted, lost, outcome_of}
+use Rattle.sz_workers.specs.Outcomes.{ShardsEnd, emitted, faulted, lost, outcome_of}
 use Rattle.szl.specs.declared.status.Status.TheVariants as status
 use Rattle.sz_refusals.specs.declared.refusal.Refusal.{Refusal}
 use Rattle.sz_refusals.specs.Lines.{refusal_line}
@@ -27,8 +27,8 @@ use Rattle.szl.specs.Settings.{selftest_run}
 use Rattle.szl.specs.Records.{Cut}
 use Rattle.szl.specs.Merging.{Merged, outcome_of_merge}
 use Rattle.szl.specs.ProtoFiles.{proto_asked, outcome_of_file, after_file}
-use Rattle.sz_protofile_rules.specs.Types.{TypeShape}
-use Rattle.sz_protofile_laws.specs.Readings.{FileReading}
+use Rattle.sz_protofile.specs.Types.{TypeShape}
+use Rattle.sz_protofile_types.specs.Readings.{FileReading}
 use Rattle.szl.specs.Shards.{shards_in, job_of}
 pub use Rattle.szl.specs.Answers.{Answer, usage_line, read_failed_line, write_failed_line, no_memory_line, damaged_line, limit_line, lost_line}
 pub use Rattle.szl.specs.Answers.{fault_texts, fault_line, success, refusal}

@@ -13,7 +13,7 @@ use Rattle.sz_machine.specs.Ends.{seen_fault}
 use Rattle.sz_words.specs.declared.settings.RunSettings.{RunSettings}
 use Rattle.sz_attempt.specs.declared.job.Job.{Job}
 use Rattle.sz_attempt.specs.Shards.{IsJob}
-use Rattle.sz_rounds.specs.Outcomes.{outcome_of}
+use Rattle.sz_workers.specs.Outcomes.{outcome_of}
 use Rattle.sz_save.specs.Saving.{HaveSpelling}
 use Rattle.sz_stream.specs.declared.stop.Stop.{Stop}
 use Rattle.sz_stream.specs.declared.stop.Stop.TheVariants as stops

@@ -18,7 +18,7 @@ use Rattle.szl.specs.Merging.{Merged, IsMerged, AreBytesOf}
 use Rattle.szl.specs.Answers.{Answer, read_failed_line, write_failed_line, no_memory_line}
 use Rattle.szl.specs.ProtoFiles.{IsFileRead, IsOfFile, proto_asked}
 use Rattle.szl.specs.Outcome.{outcome}
-use Rattle.sz_protofile_laws.specs.Readings.{FileReading}
+use Rattle.sz_protofile_types.specs.Readings.{FileReading}
 
 -- The status is the outcome's, or one of the three that a device or want of memory brings: reading can fail only where
 -- the words are a command line, and writing only where there are bytes to write.

@@ -1,8 +1,8 @@
 -- The `.proto` file that a command line may name: what it is read as, and the line of one that is refused.
 use Rattle.std.specs.Prelude.{◌≡◌, ℕ, suc, ◌<◌, ◌≤◌, List, [], ◌∷◌, ◌++◌, length, slice_index_or, codes, Option, Some, None, IfSome}
-use Rattle.sz_protofile_rules.specs.declared.fault.Fault.{Fault}
-use Rattle.sz_protofile_rules.specs.Types.{TypeShape, first_place, refused_at}
-use Rattle.sz_protofile_laws.specs.Readings.{FileReading, bad_file, with_types, IsReading}
+use Rattle.sz_protofile.specs.declared.fault.Fault.{Fault}
+use Rattle.sz_protofile.specs.Types.{TypeShape, first_place, refused_at}
+use Rattle.sz_protofile_types.specs.Readings.{FileReading, bad_file, with_types, IsReading}
 use Rattle.sz_words.specs.declared.settings.Settings.{Settings}
 use Rattle.sz_words.specs.declared.settings.Settings.TheVariants.{Run, Check}
 use Rattle.szl.specs.declared.status.Status.TheVariants as status

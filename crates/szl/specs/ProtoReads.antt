@@ -3,8 +3,8 @@ use Rattle.std.specs.Prelude.{◌≡◌, ⊤, List, [], ◌∷◌, ℕ, Option, 
 use Rattle.sz_io.specs.Rose.{Rose}
 use Rattle.sz_io.specs.Calls.{NamesGain, OpensOne}
 use Rattle.sz_io.specs.declared.files.Files as files
-use Rattle.sz_protofile_rules.specs.Types.{TypeShape}
-use Rattle.sz_protofile_laws.specs.Readings.{bad_file, with_types}
+use Rattle.sz_protofile.specs.Types.{TypeShape}
+use Rattle.sz_protofile_types.specs.Readings.{bad_file, with_types}
 use Rattle.sz_save_format.specs.Types.{HasTypeBytes}
 use Rattle.szl.specs.declared.proto.TypesFile.{TypesFile}
 use Rattle.szl.specs.declared.failure.Failure.{Failure}

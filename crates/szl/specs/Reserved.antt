@@ -9,7 +9,7 @@ use Rattle.sz_check_rules.specs.declared.cause.Cause.TheVariants.{ReservedName}
 use Rattle.sz_refusals.specs.declared.refusal.Refusal.{Refusal}
 use Rattle.sz_refusals.specs.Refusing.{refusal_at}
 use Rattle.szl.specs.Checking.{checked}
-use Rattle.sz_protofile_rules.specs.Types.{TypeShape}
+use Rattle.sz_protofile.specs.Types.{TypeShape}
 
 -- the place of the name, if it is this one
 abbrev pub if_named : List ℕ → Ident → Option Place

@@ -10,19 +10,19 @@ use Rattle.sz_mean.specs.Programs.{statics}
 use Rattle.sz_world_rules.specs.World.{Done}
 use Rattle.sz_world_rules.specs.Slots.{Slot}
 use Rattle.sz_records.specs.declared.ending.Ending.{Ending}
-use Rattle.sz_rounds.specs.Outcomes.{ShardsEnd}
-use Rattle.sz_protofile_rules.specs.Types.{TypeShape}
-use Rattle.sz_protofile_laws.specs.Readings.{FileReading, with_types}
+use Rattle.sz_workers.specs.Outcomes.{ShardsEnd}
+use Rattle.sz_protofile.specs.Types.{TypeShape}
+use Rattle.sz_protofile_types.specs.Readings.{FileReading, with_types}
 use Rattle.sz_words.specs.declared.settings.RunSettings.{RunSettings}
 use Rattle.sz_words.specs.declared.settings.Settings.{Settings}
 use Rattle.sz_words.specs.declared.settings.Settings.TheVariants.{Resume}
 use Rattle.sz_attempt.specs.declared.job.Job.{Job}
-use Rattle.sz_journal_format.specs.declared.job.JobBytes.{JobBytes}
-use Rattle.sz_journal_format.specs.declared.round.RoundEntry.{RoundEntry}
-use Rattle.sz_journal_format.specs.Rounds.{last_progress}
-use Rattle.sz_journal_rules.specs.Journals.{Standing, Stands, Spells}
-use Rattle.sz_gates.specs.Crashing.{Rests, LeavesOnly}
-use Rattle.sz_gates.specs.Entries.{IsEmpty}
+use Rattle.sz_journal.specs.declared.job.JobBytes.{JobBytes}
+use Rattle.sz_journal.specs.declared.round.RoundEntry.{RoundEntry}
+use Rattle.sz_journal.specs.Rounds.{last_progress}
+use Rattle.sz_journal.specs.Journals.{Standing, Stands, Spells}
+use Rattle.sz_disk.specs.Crashing.{Rests, LeavesOnly}
+use Rattle.sz_disk.specs.Entries.{IsEmpty}
 use Rattle.sz_resume.specs.Standing.{Source, IsFound}
 use Rattle.sz_resume.specs.Stops.{AreSmall, LeavesRounds, HoldsAll}
 use Rattle.szl.specs.declared.status.Status.{Status}

@@ -5,16 +5,16 @@ use Rattle.sz_world_rules.specs.World as world
 use Rattle.sz_world_rules.specs.Slots.{Slot}
 use Rattle.sz_mean.specs.Marked.{Marked}
 use Rattle.sz_mean.specs.Programs.{statics}
-use Rattle.sz_protofile_rules.specs.Types.{TypeShape}
-use Rattle.sz_protofile_laws.specs.Readings.{FileReading}
+use Rattle.sz_protofile.specs.Types.{TypeShape}
+use Rattle.sz_protofile_types.specs.Readings.{FileReading}
 use Rattle.sz_words.specs.declared.settings.Kill.{Kill}
 use Rattle.sz_words.specs.declared.settings.RunSettings.{RunSettings}
-use Rattle.sz_gates.specs.Entries.{end_of}
-use Rattle.sz_journal_format.specs.declared.job.Triple.{Triple}
-use Rattle.sz_journal_format.specs.declared.job.JobBytes.{JobBytes}
-use Rattle.sz_journal_format.specs.declared.round.RoundEntry.{RoundEntry}
-use Rattle.sz_journal_format.specs.Rounds.{last_progress}
-use Rattle.sz_journal_rules.specs.Journals.{Standing, Empty, OtherJob, DamagedAt, Spelled, entries_of}
+use Rattle.sz_disk.specs.Entries.{end_of}
+use Rattle.sz_journal.specs.declared.job.Triple.{Triple}
+use Rattle.sz_journal.specs.declared.job.JobBytes.{JobBytes}
+use Rattle.sz_journal.specs.declared.round.RoundEntry.{RoundEntry}
+use Rattle.sz_journal.specs.Rounds.{last_progress}
+use Rattle.sz_journal.specs.Journals.{Standing, Empty, OtherJob, DamagedAt, Spelled, entries_of}
 use Rattle.sz_resume.specs.Standing.{Source}
 use Rattle.szl.specs.declared.status.Status.TheVariants as status
 use Rattle.sz_refusals.specs.declared.refusal.Refusal.{Refusal}

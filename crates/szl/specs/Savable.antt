@@ -9,7 +9,7 @@ use Rattle.sz_save.specs.Saving.{is_low}
 use Rattle.sz_check_rules.specs.declared.cause.Cause.TheVariants.{TypeTooDeep}
 use Rattle.sz_refusals.specs.declared.refusal.Refusal.{Refusal}
 use Rattle.szl.specs.Reserved.{declared_in, runnable}
-use Rattle.sz_protofile_rules.specs.Types.{TypeShape}
+use Rattle.sz_protofile.specs.Types.{TypeShape}
 
 -- the first table that a saved file can't hold, as the type of an index or of its elements has too many levels
 abbrev pub first_high : List Declaration → Option Declaration

@@ -11,10 +11,10 @@ use Rattle.sz_tabs.specs.Data.{EmitDatum}
 use Rattle.sz_records.specs.declared.ending.Ending.TheVariants.{Whole}
 use Rattle.sz_words.specs.declared.settings.RunSettings.{RunSettings}
 use Rattle.sz_words.specs.Bounds.{HasBounds}
-use Rattle.sz_rounds.specs.Outcomes.{emitted, outcome_of}
+use Rattle.sz_workers.specs.Outcomes.{emitted, outcome_of}
 use Rattle.sz_save_format.specs.Saved.{Saves}
 use Rattle.sz_save.specs.Saving.{state_of_emits}
-use Rattle.sz_protofile_rules.specs.Types.{TypeShape}
+use Rattle.sz_protofile.specs.Types.{TypeShape}
 use Rattle.szl.specs.declared.status.Status.TheVariants as status
 use Rattle.szl.specs.Judgement.{Reading, IsRead, spells}
 use Rattle.szl.specs.Savable.{savable}

@@ -7,14 +7,14 @@ use Rattle.sz_mean.specs.Marked.{all_tables}
 use Rattle.sz_tabs.specs.Data.{EmitDatum}
 use Rattle.sz_attempt.specs.declared.job.Job.{Job}
 use Rattle.sz_records.specs.declared.ending.Ending.TheVariants.{Whole}
-use Rattle.sz_rounds.specs.Outcomes.{emitted, outcome_of}
+use Rattle.sz_workers.specs.Outcomes.{emitted, outcome_of}
 use Rattle.sz_save_format.specs.Saved.{Saves}
 use Rattle.sz_save.specs.Saving.{state_of_emits}
 use Rattle.sz_words.specs.declared.settings.RunSettings.{RunSettings}
 use Rattle.sz_words.specs.declared.settings.Settings.{Settings}
 use Rattle.sz_words.specs.declared.settings.Settings.TheVariants.{Run}
-use Rattle.sz_protofile_rules.specs.Types.{TypeShape}
-use Rattle.sz_protofile_laws.specs.Readings.{with_types}
+use Rattle.sz_protofile.specs.Types.{TypeShape}
+use Rattle.sz_protofile_types.specs.Readings.{with_types}
 use Rattle.szl.specs.ProtoFiles.{IsFileRead, IsOfFile}
 use Rattle.szl.specs.Records.{Cut, IsCutInto}
 use Rattle.szl.specs.SavedRuns.{SavedRun}

@@ -6,7 +6,7 @@ use Rattle.sz_records.specs.Shards.{AreShards}
 use Rattle.sz_words.specs.declared.settings.RunSettings.{RunSettings}
 use Rattle.sz_attempt.specs.declared.job.Job.{Job}
 use Rattle.sz_attempt.specs.Shards.{ShardData}
-use Rattle.sz_rounds.specs.Cuts.{cut_into}
+use Rattle.sz_workers.specs.Cuts.{cut_into}
 
 -- the size of the last shard, if it has records
 abbrev pub last_size : ℕ → List ℕ

@@ -2,7 +2,7 @@
 use Rattle.std.specs.Prelude.{◌≡◌, ℕ, List, Option, Some}
 use Rattle.sz_mean.specs.Marked.{Marked}
 use Rattle.sz_world_rules.specs.Slots.{Slot}
-use Rattle.sz_protofile_laws.specs.Readings.{FileReading}
+use Rattle.sz_protofile_types.specs.Readings.{FileReading}
 use Rattle.sz_words.specs.declared.settings.RunSettings.{RunSettings}
 use Rattle.sz_words.specs.declared.settings.Settings.TheVariants.{Run, Selftest}
 use Rattle.szl.specs.declared.status.Status.{Status}

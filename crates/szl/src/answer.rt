@@ -7,7 +7,7 @@ ghost use Rattle.sz_core.specs.Sound.{IsSound};
 ghost use Rattle.sz_mean.specs.Marked.{marked};
 ghost use Rattle.sz_words.specs.declared.settings.Settings.TheVariants.{Run, Check};
 ghost use Rattle.sz_words.specs.Settings.{settings_in};
-ghost use Rattle.sz_protofile_laws.specs.Sound.{AreSound};
+ghost use Rattle.sz_protofile_types.specs.Sound.{AreSound};
 ghost use Rattle.szl.specs.Opening.{ReadsText, ran_out, past_program, status_of_answer, Answers, AnswersWith, AnswersOn, AnswersText, AnswersCheck};
 ghost use Rattle.szl.specs.Outcome.{outcome_of_program};
 ghost use Rattle.szl.specs.SavedRuns.{SavesTables, SavedRun};

@@ -12,7 +12,7 @@ use sz_journal::OpenError;
 use sz_lex::LexError;
 use sz_machine::Fault;
 use sz_parse::ParseError;
-use sz_protofile_rules::Fault as FileFault;
+use sz_protofile::Fault as FileFault;
 use sz_refusals::Refusal;
 use sz_resume::Halt;
 use sz_stream::Stop;

@@ -1,7 +1,7 @@
 //! What a program's text is: its tree, and the checked program.
 ghost use Rattle.std.specs.Prelude.{◌≡◌, ◌≤◌, length, IfOk, IfErr, Ok};
 ghost use Rattle.sz_core.specs.Sound.{IsSound};
-ghost use Rattle.sz_protofile_laws.specs.Sound.{AreSound};
+ghost use Rattle.sz_protofile_types.specs.Sound.{AreSound};
 ghost use Rattle.sz_tree.specs.View.{program_of};
 ghost use Rattle.szl.specs.Checking.{checked};
 ghost use Rattle.sz_refusals.specs.Texts.{HasStatements, most_program_bytes};

@@ -9,9 +9,8 @@ ghost use Rattle.szl.specs.SavedRuns.{MergesToOneRun, SavesItsAnswer};
 ghost use Rattle.szl.specs.Shards.{SizesAreShards};
 ghost use Rattle.szl.specs.Workers.{JobForgetsTheWorkers, ResumeForgetsTheWorkers, RunForgetsTheWorkers, SelftestForgetsTheWorkers};
 
-use sz_merge::merging_forgets_the_order;
+use sz_merge::{merging_forgets_the_order, saved_runs_join};
 use sz_save::one_spelling;
-use sz_save_laws::saved_runs_join;
 
 /// A text has just one reading, so the outcome of a command line is determined by its words and the bytes of its files.
 pub fn readings_are_unique()

@@ -3,11 +3,11 @@ ghost use Rattle.std.specs.Prelude.{◌≡◌, ◌<◌, ◌≤◌, [], length, I
 ghost use Rattle.sz_io.specs.Rose.{Rose};
 ghost use Rattle.sz_io.specs.Opened.{KeepsFiles};
 ghost use Rattle.sz_io.specs.Calls.{NamesGain, OpensOne, ReadToEnd};
-ghost use Rattle.sz_protofile_laws.specs.Sound.{AreSound};
+ghost use Rattle.sz_protofile_types.specs.Sound.{AreSound};
 ghost use Rattle.szl.specs.Opening.{ReadsText, ran_out, status_of_answer};
 ghost use Rattle.szl.specs.Promise.{IfRead};
 ghost use Rattle.szl.specs.ProgramRuns.{vec_items_of};
-ghost use Rattle.sz_protofile_laws.specs.Readings.{with_types};
+ghost use Rattle.sz_protofile_types.specs.Readings.{with_types};
 ghost use Rattle.szl.specs.ProtoFiles.{most_file_bytes, file_texts, bad_file_line, IsFileRead, IsOfFile};
 ghost use Rattle.szl.specs.ProtoReads.{past_file, HaveTypeBytes, TellsTypes, ReadsTypes, GivesTypes, types_of};
 
@@ -16,9 +16,10 @@ use crate::heights::Stack;
 use crate::opening::read_text;
 use std::alloc::{AllocError, Global};
 use sz_io::Files;
-use sz_protofile_laws::{field_names_are_names, file_types_are_sound};
-use sz_protofile_rules::Fault as FileFault;
-use sz_protofile_types::{NamedTypes, ProtoError, read_proto};
+use sz_protofile::Fault as FileFault;
+use sz_protofile_types::{
+    NamedTypes, ProtoError, field_names_are_names, file_types_are_sound, read_proto,
+};
 use sz_refusals::{FIRST_PLACE, push_name, push_place};
 use sz_types::Text;
 

@@ -2,7 +2,7 @@
 ghost use Rattle.std.specs.Prelude.{◌≡◌, map, IfOk, IfErr, Ok};
 ghost use Rattle.sz_core.specs.Sound.{IsSound};
 ghost use Rattle.sz_mean.specs.Marked.{marked};
-ghost use Rattle.sz_protofile_laws.specs.Sound.{AreSound};
+ghost use Rattle.sz_protofile_types.specs.Sound.{AreSound};
 ghost use Rattle.sz_tree.specs.Statements.{stms_of};
 ghost use Rattle.sz_tree.specs.View.{stm_of, program_of};
 ghost use Rattle.szl.specs.Judging.{IsFailureOn};

@@ -5,7 +5,7 @@ ghost use Rattle.sz_core.specs.Programs.{tables_of};
 ghost use Rattle.sz_core.specs.View.{item_of};
 ghost use Rattle.sz_mean.specs.Marked.{Marked, marked};
 ghost use Rattle.sz_types.specs.SeenTables.{seen_table};
-ghost use Rattle.sz_protofile_laws.specs.Sound.{AreSound};
+ghost use Rattle.sz_protofile_types.specs.Sound.{AreSound};
 ghost use Rattle.sz_tree.specs.View.{program_of};
 ghost use Rattle.sz_refusals.specs.Texts.{IsShort, HasStatements};
 ghost use Rattle.szl.specs.Judging.{IsFailureOn};

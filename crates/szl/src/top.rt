@@ -10,7 +10,7 @@ ghost use Rattle.sz_io.specs.Calls.{GainsLine};
 ghost use Rattle.szl.specs.Completeness.{Completes};
 ghost use Rattle.szl.specs.Saving.{SavesOutput};
 ghost use Rattle.szl.specs.ResumePromise.{ByCommand, MeansJob, CompletesJob, KeepsJournal, names_on_disk};
-ghost use Rattle.sz_gates.specs.Crashing.{DoesNotFall};
+ghost use Rattle.sz_disk.specs.Crashing.{DoesNotFall};
 ghost use Rattle.szl.specs.ProgramRuns.{vec_items_of};
 
 use crate::answer::answer;

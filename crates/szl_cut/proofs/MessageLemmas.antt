@@ -27,7 +27,8 @@ low_bits_found b (Some found) n rest e =
     let parts = some_pair_parts (b - 128 + 128 * found.0) n found.1 rest e in
     (found.0, ap (λ (r : List ℕ). Some (found.0, r)) parts.1, sym parts.0)
 
-number_front : (most : ℕ) (bytes : List ℕ) (n : ℕ) (rest : List ℕ) → number_at most bytes ≡ Some (n, rest) → ReadsFront (number_at most) bytes n rest
+number_front : (most : ℕ) (bytes : List ℕ) (n : ℕ) (rest : List ℕ) → number_at most bytes ≡ Some (n, rest)
+    → ReadsFront (number_at most) bytes n rest
 unfolding number_at
 number_front zero bytes n rest e = absurd cc
 number_front (suc most) [] n rest e = absurd cc
@@ -54,11 +55,13 @@ number_front (suc most) (x ∷ xs) n rest e = by (λ k later is. number_front mo
           reads = λ more. rw is (ap (low_bits x) (later.reads more) ∙ ap (λ (k : ℕ). Some (k, more)) (sym found.2));
         }
 
-varint_front : (bytes : List ℕ) (n : ℕ) (rest : List ℕ) → varint_at bytes ≡ Some (n, rest) → ReadsFront varint_at bytes n rest
+varint_front : (bytes : List ℕ) (n : ℕ) (rest : List ℕ) → varint_at bytes ≡ Some (n, rest)
+    → ReadsFront varint_at bytes n rest
 unfolding varint_at
 varint_front bytes n rest e = by (number_at 10 bytes) refl e
   where
-    by : (read : Option (ℕ × List ℕ)) → number_at 10 bytes ≡ read → in_64_bits read ≡ Some (n, rest) → ReadsFront varint_at bytes n rest
+    by : (read : Option (ℕ × List ℕ)) → number_at 10 bytes ≡ read → in_64_bits read ≡ Some (n, rest)
+        → ReadsFront varint_at bytes n rest
     by None is h = absurd cc
     by (Some found) is h =
         let parts = some_pair_parts (found.0 % 2 ^ 64) n found.1 rest h in
@@ -85,20 +88,26 @@ record Message (p n : ℕ) (bytes r : List ℕ) (size : ℕ) : Type 0 where
 record_parts : (r s : List ℕ) (m k : ℕ) → record_of r m ≡ record_of s k → (r ≡ s) × (m ≡ k)
 record_parts r s m k e = (cc, cc)
 
-message_of : (p n : ℕ) (bytes r : List ℕ) (size : ℕ) → standing Delimited full p n bytes ≡ record_of r size → Message p n bytes r size
+message_of : (p n : ℕ) (bytes r : List ℕ) (size : ℕ) → standing Delimited full p n bytes ≡ record_of r size
+    → Message p n bytes r size
 unfolding standing frame_standing length_standing sized_standing
 message_of p n [] r size e = absurd cc
 message_of p n (b ∷ bytes) r size e = by (ltb n full.records) refl e
   where
     sized : (len : ℕ) (later : List ℕ) (front : ReadsFront varint_at (b ∷ bytes) len later) → n < full.records
-        → sized_standing full p (length (b ∷ bytes) - length later) len later ≡ record_of r size → Message p n (b ∷ bytes) r size
-    sized len later front few h = tests (ltb full.record_bytes len) (ltb full.input_bytes (p + (length (b ∷ bytes) - length later + len))) (leb len (length later)) refl refl refl h
+        → sized_standing full p (length (b ∷ bytes) - length later) len later ≡ record_of r size
+        → Message p n (b ∷ bytes) r size
+    sized len later front few h =
+        tests (ltb full.record_bytes len) (ltb full.input_bytes (p + (length (b ∷ bytes) - length later + len)))
+        (leb len (length later)) refl refl refl h
       where
         used : length (b ∷ bytes) - length later ≡ length front.front
         used = omega (arith, ap length front.is, length-append front.front later)
 
-        tests : (long past all : Bool) → ltb full.record_bytes len ≡ long → ltb full.input_bytes (p + (length (b ∷ bytes) - length later + len)) ≡ past
-            → leb len (length later) ≡ all → by_limits long past all p (record_of (take len later) (length (b ∷ bytes) - length later + len)) ≡ record_of r size
+        tests : (long past all : Bool) → ltb full.record_bytes len ≡ long
+            → ltb full.input_bytes (p + (length (b ∷ bytes) - length later + len)) ≡ past
+            → leb len (length later) ≡ all → by_limits long past all p
+            (record_of (take len later) (length (b ∷ bytes) - length later + len)) ≡ record_of r size
             → Message p n (b ∷ bytes) r size
         tests true past all a c d k = absurd cc
         tests false true all a c d k = absurd cc
@@ -120,7 +129,8 @@ message_of p n (b ∷ bytes) r size e = by (ltb n full.records) refl e
               counted = few;
             }
 
-    told : (read : Option (ℕ × List ℕ)) → varint_at (b ∷ bytes) ≡ read → n < full.records → length_standing full p (b ∷ bytes) read ≡ record_of r size → Message p n (b ∷ bytes) r size
+    told : (read : Option (ℕ × List ℕ)) → varint_at (b ∷ bytes) ≡ read → n < full.records
+        → length_standing full p (b ∷ bytes) read ≡ record_of r size → Message p n (b ∷ bytes) r size
     told None is few h = no (ltb (length (b ∷ bytes)) 10) h
       where
         no : (t : Bool) → cond t unfinished (stopped (Damaged p)) ≡ record_of r size → Message p n (b ∷ bytes) r size
@@ -128,33 +138,37 @@ message_of p n (b ∷ bytes) r size e = by (ltb n full.records) refl e
         no false h = absurd cc
     told (Some read) is few h = sized read.0 read.1 (varint_front (b ∷ bytes) read.0 read.1 is) few h
 
-    by : (t : Bool) → ltb n full.records ≡ t → cond t (length_standing full p (b ∷ bytes) (varint_at (b ∷ bytes))) (stopped (Limit p)) ≡ record_of r size
+    by : (t : Bool) → ltb n full.records ≡ t
+        → cond t (length_standing full p (b ∷ bytes) (varint_at (b ∷ bytes))) (stopped (Limit p)) ≡ record_of r size
         → Message p n (b ∷ bytes) r size
     by true is h = told (varint_at (b ∷ bytes)) refl (ltb-true _ _ is) h
     by false is h = absurd cc
 
 -- it takes some bytes, and they are there
-pub message_within : (p n : ℕ) (bytes r : List ℕ) (size : ℕ) → standing Delimited full p n bytes ≡ record_of r size → (0 < size) × (size ≤ length bytes)
+pub message_within : (p n : ℕ) (bytes r : List ℕ) (size : ℕ) → standing Delimited full p n bytes ≡ record_of r size
+    → (0 < size) × (size ≤ length bytes)
 message_within p n bytes r size stood =
     let m = message_of p n bytes r size stood in
     let long = ap length m.front.is ∙ length-append m.front.front m.later in
     (omega (arith, m.takes, m.front.some), omega (arith, m.takes, m.there, long))
 
 -- what stands where a length was read
-sized_so : (q m : ℕ) (bytes : List ℕ) (len : ℕ) (rest : List ℕ) → 0 < length bytes → m < full.records → varint_at bytes ≡ Some (len, rest)
+sized_so : (q m : ℕ) (bytes : List ℕ) (len : ℕ) (rest : List ℕ) → 0 < length bytes → m < full.records
+    → varint_at bytes ≡ Some (len, rest)
     → standing Delimited full q m bytes ≡ sized_standing full q (length bytes - length rest) len rest
 unfolding standing frame_standing length_standing
 sized_so q m [] len rest some few e = absurd (omega (arith, some))
 sized_so q m (b ∷ bytes) len rest some few e = rw (lt-ltb _ _ few, e) refl
 
 -- all of it is there, within the limits
-all_there : (q used len : ℕ) (rest : List ℕ) → len ≤ full.record_bytes → q + (used + len) ≤ full.input_bytes → len ≤ length rest
-    → sized_standing full q used len rest ≡ record_of (take len rest) (used + len)
+all_there : (q used len : ℕ) (rest : List ℕ) → len ≤ full.record_bytes → q + (used + len) ≤ full.input_bytes
+    → len ≤ length rest → sized_standing full q used len rest ≡ record_of (take len rest) (used + len)
 unfolding sized_standing
 all_there q used len rest short within there = rw (le-ltb _ _ short, le-ltb _ _ within, le-leb _ _ there) refl
 
 -- its own bytes are the message, at any earlier place
-pub stands_alone : (p q n m : ℕ) (bytes r : List ℕ) (size : ℕ) → standing Delimited full p n bytes ≡ record_of r size → q ≤ p → m ≤ n
+pub stands_alone : (p q n m : ℕ) (bytes r : List ℕ) (size : ℕ)
+    → standing Delimited full p n bytes ≡ record_of r size → q ≤ p → m ≤ n
     → standing Delimited full q m (take size bytes) ≡ record_of r size
 stands_alone p q n m bytes r size stood earlier fewer =
     let w = message_of p n bytes r size stood in
@@ -168,8 +182,8 @@ stands_alone p q n m bytes r size stood earlier fewer =
     let counted = w.counted in
     let some = w.front.some in
     ap (standing Delimited full q m) bytes_are
-    ∙ sized_so q m (front ++ own) w.len own (omega (arith, length-append front own, some)) (omega (arith, counted, fewer)) (w.front.reads own)
-    ∙ ap (λ (k : ℕ). sized_standing full q k w.len own) used
+    ∙ sized_so q m (front ++ own) w.len own (omega (arith, length-append front own, some))
+    (omega (arith, counted, fewer)) (w.front.reads own) ∙ ap (λ (k : ℕ). sized_standing full q k w.len own) used
     ∙ all_there q (length front) w.len own w.short (omega (arith, within, earlier)) (omega (arith, own_len))
     ∙ ap (λ (l : List ℕ). record_of l (length front + w.len)) (take-take w.len w.len w.later (omega arith) ∙ sym w.is)
     ∙ ap (record_of r) (sym w.takes)
@@ -177,20 +191,24 @@ stands_alone p q n m bytes r size stood earlier fewer =
     take_more : (front later : List ℕ) (k : ℕ) → take (length front + k) (front ++ later) ≡ front ++ take k later
     take_more [] later k = ap (λ (j : ℕ). take j later) (let e : 0 + k ≡ k = omega arith in e)
     take_more (x ∷ front) later k =
-        ap (λ (j : ℕ). take j (x ∷ (front ++ later))) (let e : suc (length front) + k ≡ suc (length front + k) = omega arith in e)
+        ap (λ (j : ℕ). take j (x ∷ (front ++ later)))
+        (let e : suc (length front) + k ≡ suc (length front + k) = omega arith in e)
         ∙ ap (λ (l : List ℕ). x ∷ l) (take_more front later k)
 
 -- an empty rest
 pub nothing_cut : (p n : ℕ) (bytes : List ℕ) → bytes ≡ [] → IsCut Delimited full p n bytes [] Whole
 unfolding standing
-nothing_cut p n bytes is = subst (λ (l : List ℕ). IsCut Delimited full p n l [] Whole) (sym is) (cut_end Delimited full p n [] [] Whole refl refl)
+nothing_cut p n bytes is = subst (λ (l : List ℕ). IsCut Delimited full p n l [] Whole) (sym is)
+    (cut_end Delimited full p n [] [] Whole refl refl)
 
-pub one_alone : (p q n m : ℕ) (bytes r : List ℕ) (size : ℕ) → standing Delimited full p n bytes ≡ record_of r size → q ≤ p → m ≤ n
+pub one_alone : (p q n m : ℕ) (bytes r : List ℕ) (size : ℕ)
+    → standing Delimited full p n bytes ≡ record_of r size → q ≤ p → m ≤ n
     → IsCut Delimited full q m (take size bytes) (r ∷ []) Whole
 one_alone p q n m bytes r size stood earlier fewer =
     let within = message_within p n bytes r size stood in
-    cut_record Delimited full q m (take size bytes) r size [] Whole (stands_alone p q n m bytes r size stood earlier fewer)
-    (nothing_cut (q + size) (m + 1) (drop size (take size bytes)) (drop_all size (take size bytes) (omega (arith, length-take-le size bytes within.1))))
+    cut_record Delimited full q m (take size bytes) r size [] Whole
+    (stands_alone p q n m bytes r size stood earlier fewer) (nothing_cut (q + size) (m + 1) (drop size
+    (take size bytes)) (drop_all size (take size bytes) (omega (arith, length-take-le size bytes within.1))))
 
 -- where no message is left of a whole file, no byte is
 pub none_left : (p n : ℕ) (bytes : List ℕ) → IsCut Delimited full p n bytes [] Whole → bytes ≡ []
@@ -212,7 +230,8 @@ pub record FirstStands (p n : ℕ) (bytes r : List ℕ) (rs : List (List ℕ)) :
   pub stood : standing Delimited full p n bytes ≡ record_of r size
   pub rest : IsCut Delimited full (p + size) (n + 1) (drop size bytes) rs Whole
 
-pub first_stands : (p n : ℕ) (bytes r : List ℕ) (rs : List (List ℕ)) → IsCut Delimited full p n bytes (r ∷ rs) Whole → FirstStands p n bytes r rs
+pub first_stands : (p n : ℕ) (bytes r : List ℕ) (rs : List (List ℕ)) → IsCut Delimited full p n bytes (r ∷ rs) Whole
+    → FirstStands p n bytes r rs
 unfolding IsCut
 first_stands p n bytes r rs h = by (standing Delimited full p n bytes) refl h
   where
@@ -224,14 +243,20 @@ first_stands p n bytes r rs h = by (standing Delimited full p n bytes) refl h
     no_line (b ∷ bytes) e = (let no = ap (λ (x : List (List ℕ) × Ending). x.1) e in cc)
 
     by : (s : Standing) → standing Delimited full p n bytes ≡ s
-        → BeginsWith Delimited p bytes (λ size. IsCut Delimited full (p + size) (n + 1) (drop size bytes) rs Whole) r rs Whole s → FirstStands p n bytes r rs
-    by (record_of q size) stood h = record { size = size; stood = stood ∙ ap (λ (l : List ℕ). record_of l size) (sym h.0); rest = h.1 }
+        → BeginsWith Delimited p bytes (λ size. IsCut Delimited full (p + size) (n + 1) (drop size bytes) rs Whole) r
+        rs Whole s → FirstStands p n bytes r rs
+    by (record_of q size) stood h = record {
+      size = size;
+      stood = stood ∙ ap (λ (l : List ℕ). record_of l size) (sym h.0);
+      rest = h.1;
+    }
     by (stopped why) stood h = absurd h
     by unfinished stood h = absurd (no_line bytes h)
 
 -- two whole files, one after the other, are one
 pub joined : (rs others : List (List ℕ)) (q m : ℕ) (front back : List ℕ) → IsCut Delimited full q m front rs Whole
-    → IsCut Delimited full (q + length front) (m + length rs) back others Whole → IsCut Delimited full q m (front ++ back) (rs ++ others) Whole
+    → IsCut Delimited full (q + length front) (m + length rs) back others Whole
+    → IsCut Delimited full q m (front ++ back) (rs ++ others) Whole
 joined [] others q m front back h k =
     let none = none_left q m front h in
     let place : q + length front ≡ q = omega (arith, ap length none) in
@@ -240,8 +265,11 @@ joined [] others q m front back h k =
 joined (r ∷ rs) others q m front back h k =
     let first = first_stands q m front r rs h in
     let within = message_within q m front r first.size first.stood in
-    let place : q + length front ≡ q + first.size + length (drop first.size front) = omega (arith, within.1, length-drop first.size front) in
+    let place : q + length front ≡ q + first.size + length (drop first.size front) =
+    omega (arith, within.1, length-drop first.size front) in
     let count : m + suc (length rs) ≡ m + 1 + length rs = omega arith in
-    let later = joined rs others (q + first.size) (m + 1) (drop first.size front) back first.rest (rw (place, count) at k) in
-    cut_record Delimited full q m (front ++ back) r first.size (rs ++ others) Whole (record_stays Delimited full q m front back r first.size first.stood)
+    let later =
+    joined rs others (q + first.size) (m + 1) (drop first.size front) back first.rest (rw (place, count) at k) in
+    cut_record Delimited full q m (front ++ back) r first.size (rs ++ others) Whole
+    (record_stays Delimited full q m front back r first.size first.stood)
     (rw (drop-append-le first.size front back within.1) later)

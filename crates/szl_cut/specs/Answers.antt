@@ -13,7 +13,8 @@ use Rattle.szl_cut.specs.Cuts.{Ends}
 -- the size of parts that a word asks for: decimal digits of a value from 1 to 2^40
 abbrev pub size_in : List ℕ → Option ℕ
 size_in word =
-    let size = digits_value 10 word in if (is_numeral word && nat_le size (2 ^ 40)) && nat_le 1 size then Some size else None
+    let size = digits_value 10 word in
+    if (is_numeral word && nat_le size (2 ^ 40)) && nat_le 1 size then Some size else None
 
 -- a file's name, and the size of its parts
 pub record Asked : Type 0 where

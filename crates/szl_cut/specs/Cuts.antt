@@ -5,7 +5,8 @@ use Rattle.sz_records.specs.declared.ending.Ending.{Ending}
 use Rattle.sz_records.specs.declared.ending.Ending.TheVariants.{Whole}
 use Rattle.sz_records.specs.Cutting.{full, IsCut, ends_in}
 
--- Where the file is cut, of messages that end at these places: in front of each that is the first to begin at a multiple of the size, or past it.
+-- Where the file is cut, of messages that end at these places: in front of each that is the first to begin at a
+-- multiple of the size, or past it.
 -- The first of them begins at `start`, and the one before it at `before`
 abbrev pub cuts : ℕ → ℕ → ℕ → List ℕ → List ℕ
 cuts size before start [] = []

@@ -16,4 +16,5 @@ IsPart part messages = IsCut Delimited full 0 0 part messages Whole
 -- each part is a whole file by itself, and the messages of all, one part after the other, are these
 abbrev pub HoldTogether : List (List ℕ) → List (List ℕ) → Type 0
 HoldTogether [] messages = messages ≡ []
-HoldTogether (part ∷ others) messages = (count : ℕ) × (IsPart part (take count messages) × HoldTogether others (drop count messages))
+HoldTogether (part ∷ others) messages =
+    (count : ℕ) × (IsPart part (take count messages) × HoldTogether others (drop count messages))

@@ -35,7 +35,8 @@ pub record IsAt (size : ℕ) (progress : Progress) (fed : List ℕ) (given : Lis
 pub record Notes (old new : Progress) (ends : List ℕ) : Type 0 where
   pub framer : new.framer ≡ old.framer
   pub same_size : new.size ≡ old.size
-  pub cut : (rest : List ℕ) → old.places.items ++ cuts old.size old.before old.start (ends ++ rest) ≡ new.places.items ++ cuts old.size new.before new.start rest
+  pub cut : (rest : List ℕ) → old.places.items ++ cuts old.size old.before old.start (ends ++ rest)
+      ≡ new.places.items ++ cuts old.size new.before new.start rest
 
 -- how messages end, as the answer
 abbrev pub ended_so : Option Ending → Result (Unit {0}) Failure
@@ -52,19 +53,23 @@ pub record TakesIn (size : ℕ) (new : Progress) (fed : List ℕ) : Type 0 where
 
 -- whatever was read before the piece, it is taken in
 abbrev pub Takes : Progress → Progress → List ℕ → Type 0
-Takes old new piece = (size : ℕ) (fed : List ℕ) (given : List (List ℕ)) → IsAt size old fed given → old.framer.ended ≡ None → TakesIn size new (fed ++ piece)
+Takes old new piece = (size : ℕ) (fed : List ℕ) (given : List (List ℕ)) → IsAt size old fed given
+    → old.framer.ended ≡ None → TakesIn size new (fed ++ piece)
 
 -- whatever was read before the piece, each file that so begins ends so
 abbrev pub Stops : Progress → List ℕ → Failure → Type 0
-Stops old piece failure = (size : ℕ) (fed : List ℕ) (given : List (List ℕ)) → IsAt size old fed given → (more : List ℕ) → IsFor (Some (fed ++ piece ++ more)) failure
+Stops old piece failure = (size : ℕ) (fed : List ℕ) (given : List (List ℕ)) → IsAt size old fed given
+    → (more : List ℕ) → IsFor (Some (fed ++ piece ++ more)) failure
 
 -- the file that was read is whole, and cut so
 abbrev pub Finishes : Progress → List ℕ → Type 0
-Finishes old places = (size : ℕ) (fed : List ℕ) (given : List (List ℕ)) → IsAt size old fed given → IsCutAt size fed places
+Finishes old places = (size : ℕ) (fed : List ℕ) (given : List (List ℕ)) → IsAt size old fed given
+    → IsCutAt size fed places
 
 -- the file that was read ends otherwise
 abbrev pub FinishesNot : Progress → Failure → Type 0
-FinishesNot old failure = (size : ℕ) (fed : List ℕ) (given : List (List ℕ)) → IsAt size old fed given → IsFor (Some fed) failure
+FinishesNot old failure = (size : ℕ) (fed : List ℕ) (given : List (List ℕ)) → IsAt size old fed given
+    → IsFor (Some fed) failure
 
 -- bytes were read from the beginning of a file
 pub record Reaches (size : ℕ) (progress : Progress) (start left : Option (List ℕ)) : Type 0 where
@@ -91,7 +96,8 @@ pub record ReadsOn (size : ℕ) (old new : Progress) (start left : Option (List 
   pub less : more ≡ true → left_to_read new.framer < left_to_read old.framer
 
 abbrev pub Reads : Progress → Progress → Option (List ℕ) → Option (List ℕ) → Bool → Type 0
-Reads old new left after more = (size : ℕ) (start : Option (List ℕ)) → Reaches size old start left → ReadsOn size old new start after more
+Reads old new left after more = (size : ℕ) (start : Option (List ℕ)) → Reaches size old start left
+    → ReadsOn size old new start after more
 
 abbrev pub StopsReading : Progress → Option (List ℕ) → Failure → Type 0
 StopsReading old left failure = (size : ℕ) (start : Option (List ℕ)) → Reaches size old start left → IsFor start failure

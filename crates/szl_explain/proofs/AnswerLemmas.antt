@@ -32,7 +32,8 @@ not_unread None is = cc
 not_unread (Some r) is = cc
 
 -- the bytes that were read are those that the file holds, where it tells them
-pub holds_read : (told : Option (List ℕ)) (items text : List ℕ) → text ≡ items → IfSome told (λ held. items ≡ held) → IfSome told (λ held. held ≡ text)
+pub holds_read : (told : Option (List ℕ)) (items text : List ℕ) → text ≡ items → IfSome told (λ held. items ≡ held)
+    → IfSome told (λ held. held ≡ text)
 holds_read None items text same read = tt
 holds_read (Some held) items text same read = sym (same ∙ read)
 
@@ -51,8 +52,8 @@ holds_long None limit long = record {
 holds_long (Some bytes) limit long = record { text = bytes; holds = refl; long = long }
 
 -- a front of the line was written, and so a front of it and of what comes after it
-pub part_of_first : (old new : Option (List ℕ)) (line more : List ℕ) (e : WriteError) → Appends old new (take (bytes_taken e) line)
-    → bytes_taken e < length line → AppendsPart old new (line ++ more)
+pub part_of_first : (old new : Option (List ℕ)) (line more : List ℕ) (e : WriteError)
+    → Appends old new (take (bytes_taken e) line) → bytes_taken e < length line → AppendsPart old new (line ++ more)
 part_of_first old new line more e prefix within = record {
   count = bytes_taken e;
   less = omega (arith, length-append line more, within);
@@ -60,9 +61,9 @@ part_of_first old new line more e prefix within = record {
 }
 
 -- the line was written whole, and then a front of what comes after it
-pub part_of_second : (old mid new : Option (List ℕ)) (line more : List ℕ) (result : Result (Unit {0}) WriteError) → Appends old mid line
-    → IfErr result (λ e. Appends mid new (take (bytes_taken e) more)) → IfErr result (λ e. bytes_taken e < length more)
-    → OnErr result (AppendsPart old new (line ++ more))
+pub part_of_second : (old mid new : Option (List ℕ)) (line more : List ℕ) (result : Result (Unit {0}) WriteError)
+    → Appends old mid line → IfErr result (λ e. Appends mid new (take (bytes_taken e) more))
+    → IfErr result (λ e. bytes_taken e < length more) → OnErr result (AppendsPart old new (line ++ more))
 part_of_second old mid new line more (Ok done) whole prefix within = tt
 part_of_second old mid new line more (Err e) whole prefix within = record {
   count = length line + bytes_taken e;
@@ -77,9 +78,11 @@ on_err (Err e) h = h
 
 module _ {O : Type 0} (the_out : sink.Ghosts O) (told : Option (List ℕ)) (old new : O) where
   -- what was printed of an explanation of a text is the answer for the file that holds the text
-  pub printed_answer : (text : List ℕ) (explained : Result Explanation AllocError) (status : Status) → IfSome told (λ bytes. bytes ≡ text)
-      → IfOk explained (λ e. IfNone e.refusal (IsProgram text)) → IfOk explained (λ e. IfSome e.refusal (IsRefused text))
-      → IfOk explained (λ e. e.line.items ≡ first_line e.refusal) → Prints the_out explained status old new → IsAnswer the_out told status old new
+  pub printed_answer : (text : List ℕ) (explained : Result Explanation AllocError) (status : Status)
+      → IfSome told (λ bytes. bytes ≡ text) → IfOk explained (λ e. IfNone e.refusal (IsProgram text))
+      → IfOk explained (λ e. IfSome e.refusal (IsRefused text))
+      → IfOk explained (λ e. e.line.items ≡ first_line e.refusal) → Prints the_out explained status old new
+      → IsAnswer the_out told status old new
   printed_answer text (Err error) status holds program refused line printed =
       subst (λ (s : Status). IsAnswer the_out told s old new) (sym printed.0) (inl printed.1)
   printed_answer text (Ok e) status holds program refused line printed = by status printed
@@ -97,7 +100,8 @@ module _ {O : Type 0} (the_out : sink.Ghosts O) (told : Option (List ℕ)) (old 
         is = ap (λ (l : List ℕ). l ++ e.more.items) line;
       }
 
-      some : AppendsPart (the_out.taken old) (the_out.taken new) said → WritesSome told (the_out.taken old) (the_out.taken new)
+      some : AppendsPart (the_out.taken old) (the_out.taken new) said
+          → WritesSome told (the_out.taken old) (the_out.taken new)
       some part = record { refusal = e.refusal; said = said; explains = explains; appends = part }
 
       by : (status : Status) → Prints the_out (Ok e) status old new → IsAnswer the_out told status old new
@@ -109,27 +113,33 @@ module _ {O : Type 0} (the_out : sink.Ghosts O) (told : Option (List ℕ)) (old 
       by NoMemory part = inr (some part)
 
   -- what was printed of a file that is too long is the answer for it
-  pub too_long_answer : (explained : Result Explanation AllocError) (status : Status) → IfSome told (λ bytes. most_program_bytes < length bytes)
+  pub too_long_answer : (explained : Result Explanation AllocError) (status : Status)
+      → IfSome told (λ bytes. most_program_bytes < length bytes)
       → IfOk explained (λ e. e.refusal ≡ Some (refusal_at TooLong first_place))
-      → IfOk explained (λ e. e.line.items ≡ refusal_line (refusal_at TooLong first_place)) → Prints the_out explained status old new
-      → IsAnswer the_out told status old new
+      → IfOk explained (λ e. e.line.items ≡ refusal_line (refusal_at TooLong first_place))
+      → Prints the_out explained status old new → IsAnswer the_out told status old new
   too_long_answer explained status long refusal line printed =
-      printed_answer held.text explained status held.holds (passes explained refusal) (is_refused explained refusal) (line_is explained refusal line) printed
+      printed_answer held.text explained status held.holds (passes explained refusal) (is_refused explained refusal)
+      (line_is explained refusal line) printed
     where
       held : HoldsLong told most_program_bytes
       held = holds_long told most_program_bytes long
 
-      passes : (explained : Result Explanation AllocError) → IfOk explained (λ e. e.refusal ≡ Some (refusal_at TooLong first_place))
+      passes : (explained : Result Explanation AllocError)
+          → IfOk explained (λ e. e.refusal ≡ Some (refusal_at TooLong first_place))
           → IfOk explained (λ e. IfNone e.refusal (IsProgram held.text))
       passes (Err error) is = tt
       passes (Ok e) is = subst (λ (r : Option Refusal). IfNone r (IsProgram held.text)) (sym is) tt
 
-      is_refused : (explained : Result Explanation AllocError) → IfOk explained (λ e. e.refusal ≡ Some (refusal_at TooLong first_place))
+      is_refused : (explained : Result Explanation AllocError)
+          → IfOk explained (λ e. e.refusal ≡ Some (refusal_at TooLong first_place))
           → IfOk explained (λ e. IfSome e.refusal (IsRefused held.text))
       is_refused (Err error) is = tt
-      is_refused (Ok e) is = subst (λ (r : Option Refusal). IfSome r (IsRefused held.text)) (sym is) (inl ((held.long, refl), refl))
+      is_refused (Ok e) is =
+          subst (λ (r : Option Refusal). IfSome r (IsRefused held.text)) (sym is) (inl ((held.long, refl), refl))
 
-      line_is : (explained : Result Explanation AllocError) → IfOk explained (λ e. e.refusal ≡ Some (refusal_at TooLong first_place))
+      line_is : (explained : Result Explanation AllocError)
+          → IfOk explained (λ e. e.refusal ≡ Some (refusal_at TooLong first_place))
           → IfOk explained (λ e. e.line.items ≡ refusal_line (refusal_at TooLong first_place))
           → IfOk explained (λ e. e.line.items ≡ first_line e.refusal)
       line_is (Err error) is line = tt

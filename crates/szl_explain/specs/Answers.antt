@@ -45,8 +45,9 @@ abbrev pub status_of : Option Refusal → Status
 status_of None = Done
 status_of (Some r) = Program
 
--- This is said of a file, and this is its refusal, if it has one: it is a program, or it is refused so, and the line that says it stands in
--- front. What stands after that line may be anything. Where a file doesn't tell its bytes, it is as if it held some
+-- This is said of a file, and this is its refusal, if it has one: it is a program, or it is refused so, and the line
+-- that says it stands in front. What stands after that line may be anything. Where a file doesn't tell its bytes, it
+-- is as if it held some
 pub record Explains (told : Option (List ℕ)) (refusal : Option Refusal) (said : List ℕ) : Type 0 where
   pub text : List ℕ
   pub holds : IfSome told (λ bytes. bytes ≡ text)
@@ -70,8 +71,8 @@ pub record WritesSome (told old new : Option (List ℕ)) : Type 0 where
   pub explains : Explains told refusal said
   pub appends : AppendsPart old new said
 
--- What a status says of the file under the name that is asked for, and of the output: all was written that is said of the file, a front of
--- that where writing failed, that or no call where memory ran out, and else no call
+-- What a status says of the file under the name that is asked for, and of the output: all was written that is said of
+-- the file, a front of that where writing failed, that or no call where memory ran out, and else no call
 abbrev pub IsAnswer : {O : Type 0} → sink.Ghosts O → Option (List ℕ) → Status → O → O → Type 0
 IsAnswer the_out told Usage old new = ⊥
 IsAnswer the_out told ReadFailed old new = new ≡ old
@@ -80,7 +81,8 @@ IsAnswer the_out told NoMemory old new = (new ≡ old) ⊎ WritesSome told (the_
 IsAnswer the_out told status old new = Writes told status (the_out.taken old) (the_out.taken new)
 
 -- the same by what the words ask for; where that is nothing, there is no call of the output
-abbrev pub Answers : {O : Type 0} → sink.Ghosts O → (List ℕ → Option (List ℕ)) → Option (List ℕ) → Status → O → O → Type 0
+abbrev pub Answers : {O : Type 0} → sink.Ghosts O → (List ℕ → Option (List ℕ)) → Option (List ℕ) → Status
+    → O → O → Type 0
 Answers the_out held None status old new = (status ≡ Usage) × (new ≡ old)
 Answers the_out held (Some name) status old new = IsAnswer the_out (held name) status old new
 
@@ -89,8 +91,9 @@ abbrev pub ran_out : Status → Bool
 ran_out NoMemory = true
 ran_out status = false
 
--- The name that is asked for was opened, and no other; where memory ran out, that name or none. Where none is asked for, no call was made of
--- the files
+-- The name that is asked for was opened, and no other; where memory ran out, that name or none. Where none is asked
+-- for, no call was made of the files
 abbrev pub OpensAsked : {F : Type 0} → files.Ghosts F → Option (List ℕ) → Status → F → F → Type 0
 OpensAsked the_files None status old new = new ≡ old
-OpensAsked the_files (Some name) status old new = NamesGain (ran_out status) (the_files.names old) (the_files.names new) name
+OpensAsked the_files (Some name) status old new =
+    NamesGain (ran_out status) (the_files.names old) (the_files.names new) name

@@ -17,9 +17,10 @@ use sz_lex::{Tokens, lex};
 use sz_parse::parse;
 use sz_refusals::{FIRST_PLACE, MOST_PROGRAM_BYTES, Refusal, refusal_line};
 use sz_types::Place;
-use szl_explain_judge::{can_be_tried, refusal_in, top_of};
+use szl_explain_judge::{
+    can_be_tried, refusal_in, say_character, say_literal, say_not_utf8, say_syntax, top_of,
+};
 use szl_explain_source::{Page, Source};
-use szl_explain_syntax::{say_character, say_literal, say_not_utf8, say_syntax};
 
 /// What is said of a program.
 #[derive(Drop)]

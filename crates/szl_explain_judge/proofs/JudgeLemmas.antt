@@ -30,8 +30,8 @@ unread_stop text e short (inl is) = subst (λ x. IsUnreadStop text (stop_of_lexi
 unread_stop text e short (inr h) = refused_stop text e short h
 
 -- tokens that are stuck are refused
-pub stuck_stop : (text : List ℕ) (tokens : Lexed) (e : ParseError) → IsShort text → HasTokens text tokens.tokens → tokens.text ≡ text
-    → OrNoMemory e (λ p. IsStuck tokens p) → IsUnreadStop text (stop_of_parsing e)
+pub stuck_stop : (text : List ℕ) (tokens : Lexed) (e : ParseError) → IsShort text → HasTokens text tokens.tokens
+    → tokens.text ≡ text → OrNoMemory e (λ p. IsStuck tokens p) → IsUnreadStop text (stop_of_parsing e)
 stuck_stop text tokens (parsing.Syntax q) short has is h = ((short, has_stuck_tokens text tokens q has is h), refl)
 stuck_stop text tokens parsing.NoMemory short has is h = tt
 
@@ -41,10 +41,19 @@ unread_is_stop text (stops.Refused r) h = inl h
 unread_is_stop text stops.NoMemory h = tt
 
 -- what stops the judgement of the statements of a text stops that of the text
-pub judged_is_stop : (text : List ℕ) (ss : Stms) (s : Stop) → IsShort text → HasStatements text ss → IsStopOn (checked ss) s → IsStopOf text s
-judged_is_stop text ss (stops.Refused r) short has h = inr (record { short = short; statements = ss; spelled = has; judged = h })
+pub judged_is_stop : (text : List ℕ) (ss : Stms) (s : Stop) → IsShort text → HasStatements text ss
+    → IsStopOn (checked ss) s → IsStopOf text s
+judged_is_stop text ss (stops.Refused r) short has h =
+    inr (record { short = short; statements = ss; spelled = has; judged = h })
 judged_is_stop text ss stops.NoMemory short has h = tt
 
 -- a text whose statements are a program is one
-pub spelled_program : (text : List ℕ) (ss : Stms) (program : Core) → IsShort text → HasStatements text ss → checked ss ≡ Ok program → IsProgram text
-spelled_program text ss program short has h = record { short = short; statements = ss; program = program; spelled = has; judged = h }
+pub spelled_program : (text : List ℕ) (ss : Stms) (program : Core) → IsShort text → HasStatements text ss
+    → checked ss ≡ Ok program → IsProgram text
+spelled_program text ss program short has h = record {
+  short = short;
+  statements = ss;
+  program = program;
+  spelled = has;
+  judged = h;
+}

@@ -1,4 +1,4 @@
-//! Runs by example: records that are passed over, in runs that are drawn. The lines are as in `runs.rt`, and `tools/make-kill-lists` made them.
+//! Runs by example: records that are passed over, in runs that are drawn. The lines are as in `runs.rt`, and `tools/make/kill-lists` made them.
 
 /// The runs.
 pub const RUNS: &str = r#"== drawn

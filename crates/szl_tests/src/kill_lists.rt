@@ -1,4 +1,4 @@
-//! Runs by example: each list of deaths of two shards of one record. The lines are as in `runs.rt`, and `tools/make-kill-lists` made them.
+//! Runs by example: each list of deaths of two shards of one record. The lines are as in `runs.rt`, and `tools/make/kill-lists` made them.
 
 /// The runs.
 pub const RUNS: &str = r#"== a shard is lost where both attempts die

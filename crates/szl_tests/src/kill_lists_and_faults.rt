@@ -1,4 +1,4 @@
-//! Runs by example: deaths before and after a record that faults. The lines are as in `runs.rt`, and `tools/make-kill-lists` made them.
+//! Runs by example: deaths before and after a record that faults. The lines are as in `runs.rt`, and `tools/make/kill-lists` made them.
 
 /// The runs.
 pub const RUNS: &str = r#"== a death counts in front of the record that faults

@@ -1,4 +1,4 @@
-//! Runs by example: deaths before and after records that are passed over. The lines are as in `runs.rt`, and `tools/make-kill-lists` made them.
+//! Runs by example: deaths before and after records that are passed over. The lines are as in `runs.rt`, and `tools/make/kill-lists` made them.
 
 /// The runs.
 pub const RUNS: &str = r#"== no record is passed over

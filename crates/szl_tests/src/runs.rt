@@ -1,4 +1,4 @@
-//! Whole runs of the program, as text that tests and `tools/check-runs` read: the language by example.
+//! Whole runs of the program, as text that tests and `tools/check/runs` read: the language by example.
 //!
 //! A line `PROGRAM => STATUS OUTPUT ! LINE` is a run: the text of the program, the exit status, the text that goes to standard
 //! output, and the line that goes to standard error. Output, and `!` with its line, are left out where there is none. A line that was cut
@@ -16,7 +16,7 @@
 //!   input, which isn't there, `! out 1` the second writing to the output, `! err 2` the third to the error stream, and `! none` no call. The
 //!   output takes 5 bytes at once, the error stream 4.
 //!
-//! The rows of this file and of those beside it stand nowhere else; `tools/check-runs --rows` prints them in one page.
+//! The rows of this file and of those beside it stand nowhere else; `tools/check/runs --rows` prints them in one page.
 
 /// The runs.
 pub const RUNS: &str = r#"== tables hold the sums of all lines

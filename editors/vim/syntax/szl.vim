@@ -1,4 +1,4 @@
-" Programs of szl. Made by tools/make-editors from the words and signs of the sources.
+" Programs of szl. Made by tools/make/editors from the words and signs of the sources.
 if exists("b:current_syntax")
   finish
 endif

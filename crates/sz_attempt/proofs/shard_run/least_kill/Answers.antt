@@ -15,4 +15,5 @@ loop-kill-preserved c =
     c.least_with-least.ensures.value
     ∙ ap (least_with c.args.shard_no c.args.number (get_or kills i none)) c.loop-kill.invariant
     ∙ sym (kills_more c.args.shard_no c.args.number (take i kills) (get_or kills i none))
-    ∙ ap (λ ks. least_of (kills_of c.args.shard_no c.args.number ks)) (sym (take_more kills i none c.loop-kill-test.true))
+    ∙ ap (λ ks. least_of (kills_of c.args.shard_no c.args.number ks))
+    (sym (take_more kills i none c.loop-kill-test.true))

@@ -8,31 +8,35 @@ use Rattle.sz_attempt.proofs.shard_run.run_record.Goals as goal
 
 -- the run ends
 pub run-requires-clause-ends : goal.run-requires-clause-ends
-run-requires-clause-ends c = record_ends c.args.job.now c.code.result.now c.code.ensures.value c.requires.job c.args.input.now
+run-requires-clause-ends c =
+    record_ends c.args.job.now c.code.result.now c.code.ensures.value c.requires.job c.args.input.now
 
 -- its emits fit the program's tables
 pub add_all-requires-clause-fit : goal.add_all-requires-clause-fit
 add_all-requires-clause-fit c =
-    let means = record_means c.args.job.now c.code.result.now c.code.ensures.value c.requires.job c.args.input.now c.in_ok-emits.field-0
-    c.in_ok-emits.ensures.value ∙ ap seen_end c.in-Done.is in
-    let fit = fit_tables c.args.job.now c.code.result.now c.code.ensures.value c.requires.job c.args.input.now c.in-Done.emits means in
+    let means = record_means c.args.job.now c.code.result.now c.code.ensures.value c.requires.job c.args.input.now
+    c.in_ok-emits.field-0 c.in_ok-emits.ensures.value ∙ ap seen_end c.in-Done.is in
+    let fit = fit_tables c.args.job.now c.code.result.now c.code.ensures.value c.requires.job c.args.input.now
+    c.in-Done.emits means in
     subst (All (IsEmitTo c.args.part.now.tables)) (sym c.as_slice.ensures.value)
     (subst (λ ts. All (IsEmitTo ts) c.in-Done.emits) (sym c.requires.tables) fit)
 
 -- and have short lengths
 pub add_all-requires-clause-short : goal.add_all-requires-clause-short
 add_all-requires-clause-short c =
-    let means = record_means c.args.job.now c.code.result.now c.code.ensures.value c.requires.job c.args.input.now c.in_ok-emits.field-0
-    c.in_ok-emits.ensures.value ∙ ap seen_end c.in-Done.is in
+    let means = record_means c.args.job.now c.code.result.now c.code.ensures.value c.requires.job c.args.input.now
+    c.in_ok-emits.field-0 c.in_ok-emits.ensures.value ∙ ap seen_end c.in-Done.is in
     subst (All HasShortParts) (sym c.as_slice.ensures.value)
-    (short_of_record c.args.job.now c.code.result.now c.code.ensures.value c.requires.job c.args.input.now c.in-Done.emits means)
+    (short_of_record c.args.job.now c.code.result.now c.code.ensures.value c.requires.job c.args.input.now
+    c.in-Done.emits means)
 
 -- and are few
 pub add_all-requires-clause-few : goal.add_all-requires-clause-few
 add_all-requires-clause-few c =
-    let means = record_means c.args.job.now c.code.result.now c.code.ensures.value c.requires.job c.args.input.now c.in_ok-emits.field-0
-    c.in_ok-emits.ensures.value ∙ ap seen_end c.in-Done.is in
-    let few = few_of_record c.args.job.now c.code.result.now c.code.ensures.value c.requires.job c.args.input.now c.in-Done.emits means in
+    let means = record_means c.args.job.now c.code.result.now c.code.ensures.value c.requires.job c.args.input.now
+    c.in_ok-emits.field-0 c.in_ok-emits.ensures.value ∙ ap seen_end c.in-Done.is in
+    let few = few_of_record c.args.job.now c.code.result.now c.code.ensures.value c.requires.job c.args.input.now
+    c.in-Done.emits means in
     let same = ap length c.as_slice.ensures.value in
     omega (arith, few, same, c.requires.few)
 
@@ -41,7 +45,8 @@ pub returns-in_ok-add_all-in-Done : goal.returns-in_ok-add_all-in-Done
 returns-in_ok-add_all-in-Done c = record {
   value = inl (
     c.as_slice.result.now,
-    record_means c.args.job.now c.code.result.now c.code.ensures.value c.requires.job c.args.input.now c.in_ok-emits.field-0
+    record_means
+        c.args.job.now c.code.result.now c.code.ensures.value c.requires.job c.args.input.now c.in_ok-emits.field-0
         c.in_ok-emits.ensures.value ∙ ap seen_end c.in-Done.is ∙ ap Done (sym c.as_slice.ensures.value),
     c.in_ok-add_all-in-Done.ensures.value,
     refl,
@@ -53,7 +58,8 @@ pub returns-in_ok-push-in-Fault : goal.returns-in_ok-push-in-Fault
 returns-in_ok-push-in-Fault c = record {
   value = inr (
     c.in-Fault.fault,
-    record_means c.args.job.now c.code.result.now c.code.ensures.value c.requires.job c.args.input.now c.in_ok-emits.field-0
+    record_means
+        c.args.job.now c.code.result.now c.code.ensures.value c.requires.job c.args.input.now c.in_ok-emits.field-0
         c.in_ok-emits.ensures.value ∙ ap seen_end c.in-Fault.is,
     refl,
     c.in_ok-push-in-Fault.ensures.ok,

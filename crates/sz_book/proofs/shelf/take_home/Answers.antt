@@ -10,9 +10,11 @@ use Rattle.sz_book.proofs.shelf.take_home.Goals as goal
 pub loop-home-preserved-in-Some-home : goal.loop-home-preserved-in-Some-home
 loop-home-preserved-in-Some-home g c =
     let before : List LaneData = c.args.lanes.now.items in
-    let more = one_more_home before c.loop-home.lanes.items c.loop-home.yielded (Some c.in-Some-home.lane) c.loop-home.invariant.1 in (
+    let more = one_more_home before c.loop-home.lanes.items c.loop-home.yielded (Some c.in-Some-home.lane)
+    c.loop-home.invariant.1 in (
       grind (arith, common_steps),
-      c.push_reserved.ensures.items ∙ more ∙ ap (λ home. before ++ lanes_home (c.loop-home.yielded ++ home ∷ [])) (sym c.in-Some-home.is),
+      c.push_reserved.ensures.items ∙ more
+          ∙ ap (λ home. before ++ lanes_home (c.loop-home.yielded ++ home ∷ [])) (sym c.in-Some-home.is),
       grind (arith, common_steps),
       grind (arith, common_steps),
     )
@@ -24,7 +26,8 @@ loop-home-preserved g c =
     let taken : List LaneData = c.loop-home.lanes.items in
     let more = one_more_home before taken c.loop-home.yielded None c.loop-home.invariant.1 in (
       grind (arith, common_steps),
-      sym (append-nil taken) ∙ more ∙ ap (λ home. before ++ lanes_home (c.loop-home.yielded ++ home ∷ [])) (sym c.in_default.is),
+      sym (append-nil taken) ∙ more
+          ∙ ap (λ home. before ++ lanes_home (c.loop-home.yielded ++ home ∷ [])) (sym c.in_default.is),
       grind (arith, common_steps),
       grind (arith, common_steps),
     )

@@ -7,4 +7,5 @@ use Rattle.sz_book.proofs.shelf.take_home.Given as goal
 abbrev pub invariant-loop-home : goal.invariant-loop-home
 invariant-loop-home g l = (l.yielded ++ into_iter_items l.home-iterator ≡ into_iter_items l.initial.home-iterator)
     × (l.lanes.items ≡ l.initial.lanes.items ++ lanes_home l.yielded)
-    × (vec_len l.lanes + into_iter_len l.home-iterator ≤ vec_capacity l.lanes) × (into_iter_len l.home-iterator ≡ length (into_iter_items l.home-iterator))
+    × (vec_len l.lanes + into_iter_len l.home-iterator ≤ vec_capacity l.lanes)
+    × (into_iter_len l.home-iterator ≡ length (into_iter_items l.home-iterator))

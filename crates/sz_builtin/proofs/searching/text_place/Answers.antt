@@ -18,7 +18,10 @@ characters_before-requires c =
     let at = c.in-Some.at in
     let found : FindsNeedle hay needle 0 (Some at) =
     in_texts (Some at) c.octets.ensures.value c.octets-2.ensures.value c.in-Some.ensures in
-    record { cut = cut_at_place hay needle at c.octets.ensures.utf8 c.octets-2.ensures.utf8 (bytes_first hay needle (Some at) found) }
+    record {
+      cut = cut_at_place hay needle at c.octets.ensures.utf8 c.octets-2.ensures.utf8
+          (bytes_first hay needle (Some at) found);
+    }
 
 pub returns-in-Some-clause-value : goal.returns-in-Some-clause-value
 returns-in-Some-clause-value c =
@@ -27,7 +30,8 @@ returns-in-Some-clause-value c =
     let at = c.in-Some.at in
     let found : FindsNeedle hay needle 0 (Some at) =
     in_texts (Some at) c.octets.ensures.value c.octets-2.ensures.value c.in-Some.ensures in
-    ap Some c.characters_before.ensures.value ∙ text_place_is hay needle (Some at) c.octets.ensures.utf8 c.octets-2.ensures.utf8 found
+    ap Some c.characters_before.ensures.value
+    ∙ text_place_is hay needle (Some at) c.octets.ensures.utf8 c.octets-2.ensures.utf8 found
 
 pub returns-in-None-clause-value : goal.returns-in-None-clause-value
 returns-in-None-clause-value c =

@@ -8,4 +8,7 @@ pub returns-in-Ascii : goal.returns-in-Ascii
 returns-in-Ascii c =
     let text = c.in-Ascii.text in
     let same = ascii_part_is text.octets.now (c.args.skip, c.args.count) text.ascii in
-    record { value = rw (c.in-Ascii.is) (subst (λ part. IfOk c.part_of_ascii.result (λ slot. seen_slot slot ≡ part)) same c.part_of_ascii.ensures.value) }
+    record {
+      value = rw (c.in-Ascii.is) (subst (λ part. IfOk c.part_of_ascii.result (λ slot. seen_slot slot ≡ part)) same
+          c.part_of_ascii.ensures.value);
+    }

@@ -7,4 +7,6 @@ use Rattle.sz_builtin.proofs.slicing.part_of_text.Goals as goal
 pub returns-then-is_ascii : goal.returns-then-is_ascii
 returns-then-is_ascii c =
     let same = ascii_part_is c.args.text.now (c.args.skip, c.args.count) (search rules) in
-    record { value = subst (λ part. IfOk c.ascii_part.result (λ slot. seen_slot slot ≡ part)) same c.ascii_part.ensures.value }
+    record {
+      value = subst (λ part. IfOk c.ascii_part.result (λ slot. seen_slot slot ≡ part)) same c.ascii_part.ensures.value;
+    }

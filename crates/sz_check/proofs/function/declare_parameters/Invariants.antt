@@ -9,7 +9,8 @@ use Rattle.sz_check.proofs.function.declare_parameters.Given as goal
 
 abbrev pub invariant-loop-i : goal.invariant-loop-i
 invariant-loop-i l = record {
-  declared : declare_parameters (scene_of l.known) (params_of (map param_of (drop l.i l.trees))) (map seen (drop l.i l.types))
+  declared : declare_parameters (scene_of l.known) (params_of (map param_of (drop l.i l.trees)))
+      (map seen (drop l.i l.types))
       ≡ declare_parameters (scene_of l.fn.known) (params_of (map param_of l.trees)) (map seen l.types);
   outside : l.known.outside ≡ l.fn.known.outside;
 }

@@ -20,25 +20,33 @@ returns-in-Ok c = record {
 
 pub bounds-variables-number : goal.bounds-variables-number
 bounds-variables-number c =
-    let lack = c.bounds.ensures.unbounded c.in-Err-Unbounded.number (c.in-Err-Unbounded.is ∙ ap (λ (e : _). Err e) c.in-Err-Unbounded.field-0-is) in
-    lack_within variable_of c.args.variables.now (tree_of c.args.condition.now) c.in-Err-Unbounded.number (rw c.in_ok-names.ensures.value at lack)
+    let lack = c.bounds.ensures.unbounded c.in-Err-Unbounded.number
+    (c.in-Err-Unbounded.is ∙ ap (λ (e : _). Err e) c.in-Err-Unbounded.field-0-is) in
+    lack_within variable_of c.args.variables.now (tree_of c.args.condition.now) c.in-Err-Unbounded.number
+    (rw c.in_ok-names.ensures.value at lack)
 
 pub bounds-variables-number-in-Err-Unbounded : goal.bounds-variables-number-in-Err-Unbounded
 bounds-variables-number-in-Err-Unbounded c =
-    let lack = c.bounds.ensures.unbounded c.in-Err-Unbounded.number (c.in-Err-Unbounded.is ∙ ap (λ (e : _). Err e) c.in-Err-Unbounded.field-0-is) in
-    lack_within variable_of c.args.variables.now (tree_of c.args.condition.now) c.in-Err-Unbounded.number (rw c.in_ok-names.ensures.value at lack)
+    let lack = c.bounds.ensures.unbounded c.in-Err-Unbounded.number
+    (c.in-Err-Unbounded.is ∙ ap (λ (e : _). Err e) c.in-Err-Unbounded.field-0-is) in
+    lack_within variable_of c.args.variables.now (tree_of c.args.condition.now) c.in-Err-Unbounded.number
+    (rw c.in_ok-names.ensures.value at lack)
 
 pub returns-in-Err-Unbounded : goal.returns-in-Err-Unbounded
 returns-in-Err-Unbounded c =
     let number = c.in-Err-Unbounded.number in
     let variables = c.args.variables.now in
     let first = c.index-variables-number.result in
-    let lack = c.bounds.ensures.unbounded number (c.in-Err-Unbounded.is ∙ ap (λ (e : _). Err e) c.in-Err-Unbounded.field-0-is) in
-    let lacking : position is_none (bounds_of (names_of (map variable_of variables)) (tree_of c.args.condition.now)) ≡ Some number
+    let lack =
+    c.bounds.ensures.unbounded number (c.in-Err-Unbounded.is ∙ ap (λ (e : _). Err e) c.in-Err-Unbounded.field-0-is) in
+    let lacking : position is_none
+    (bounds_of (names_of (map variable_of variables)) (tree_of c.args.condition.now)) ≡ Some number
     = rw c.in_ok-names.ensures.value at lack in
-    let within : number < length variables = lack_within variable_of variables (tree_of c.args.condition.now) number lacking in
+    let within : number < length variables =
+    lack_within variable_of variables (tree_of c.args.condition.now) number lacking in
     let there = slice_get-map variable_of variables number
-    ∙ ap (option_map variable_of) (slice_get_read variables (length variables) number first refl within c.index-variables-number.is) in
+    ∙ ap (option_map variable_of)
+    (slice_get_read variables (length variables) number first refl within c.index-variables-number.is) in
     record {
       value = stops_as c.of.result Unbounded first.name.now _ (rw (← c.index-variables-number.is) at c.of.ensures.value)
           (lacks (map variable_of variables) _ number (variable_of first) lacking there);

@@ -5,4 +5,5 @@ use Rattle.sz_check.specs.Quantified.{variable_of}
 use Rattle.sz_check.proofs.quantified.all_last.Given as goal
 
 abbrev pub invariant-loop-variable : goal.invariant-loop-variable
-invariant-loop-variable l = all_last (map variable_of (drop l.variable-index l.variables)) l.after ≡ all_last (map variable_of l.variables) false
+invariant-loop-variable l = all_last (map variable_of (drop l.variable-index l.variables)) l.after
+    ≡ all_last (map variable_of l.variables) false

@@ -30,9 +30,11 @@ returns-in_err-judge_base-clause-value c =
     let variables = c.args.variables.now in
     let bounds = c.args.bounds.now in
     let first = c.index-variables-i-in-loop-i in
-    rw (p.1, p.2) (bases_fail (map quantified_of c.loop-i.made.items) (blocks_of c.loop-i.known) (map variable_of (drop i variables))
-    (map variable_of (drop (i + 1) variables)) (map bound_of (drop i bounds)) (map bound_of (drop (i + 1) bounds)) (variable_of first.result)
-    (bound_of c.in-Some.bound.now) c.in_err-judge_base.field-0.0 _ (rest_more variable_of variables i first.result c.loop-i-test.true first.is)
+    rw (p.1, p.2) (bases_fail (map quantified_of c.loop-i.made.items) (blocks_of c.loop-i.known)
+    (map variable_of (drop i variables)) (map variable_of (drop (i + 1) variables)) (map bound_of (drop i bounds))
+    (map bound_of (drop (i + 1) bounds)) (variable_of first.result)
+    (bound_of c.in-Some.bound.now) c.in_err-judge_base.field-0.0 _
+    (rest_more variable_of variables i first.result c.loop-i-test.true first.is)
     (rest_more bound_of bounds i c.in-Some.bound.now c.in-Some.ensures.lookup.3.0 c.in-Some.ensures.lookup.1)
     c.in_err-judge_base.ensures.value c.loop-i.invariant.judged)
 
@@ -44,8 +46,9 @@ loop-i-preserved c =
     let first = c.index-variables-i-in-loop-i in
     record {
       judged = rw (c.in_ok-push.ensures.items, map_push quantified_of c.loop-i.made.items c.in_ok-judge_base.field-0)
-          (bases_go (map quantified_of c.loop-i.made.items) (blocks_of c.loop-i.known) (map variable_of (drop i variables))
-          (map variable_of (drop (i + 1) variables)) (map bound_of (drop i bounds)) (map bound_of (drop (i + 1) bounds)) (variable_of first.result)
+          (bases_go (map quantified_of c.loop-i.made.items) (blocks_of c.loop-i.known)
+          (map variable_of (drop i variables)) (map variable_of (drop (i + 1) variables))
+          (map bound_of (drop i bounds)) (map bound_of (drop (i + 1) bounds)) (variable_of first.result)
           (bound_of c.in-Some.bound.now) (based_of c.judge_base.new.known c.in_ok-judge_base.field-0) _
           (rest_more variable_of variables i first.result c.loop-i-test.true first.is)
           (rest_more bound_of bounds i c.in-Some.bound.now c.in-Some.ensures.lookup.3.0 c.in-Some.ensures.lookup.1)
@@ -55,6 +58,7 @@ loop-i-preserved c =
     }
 
 pub returns-clause-value : goal.returns-clause-value
-returns-clause-value c = bases_end (map quantified_of c.loop-i.made.items) (blocks_of c.loop-i.known) (map variable_of (drop c.loop-i.i c.args.variables.now))
-    (map bound_of (drop c.loop-i.i c.args.bounds.now)) _ (rest_none variable_of c.args.variables.now c.loop-i.i c.loop-i-test.false)
+returns-clause-value c = bases_end (map quantified_of c.loop-i.made.items) (blocks_of c.loop-i.known)
+    (map variable_of (drop c.loop-i.i c.args.variables.now)) (map bound_of (drop c.loop-i.i c.args.bounds.now)) _
+    (rest_none variable_of c.args.variables.now c.loop-i.i c.loop-i-test.false)
     c.loop-i.invariant.judged

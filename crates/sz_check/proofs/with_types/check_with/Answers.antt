@@ -3,7 +3,7 @@ use Rattle.std.proofs.Common.{List, subst}
 use Rattle.std.specs.Prelude.{IsTrue}
 use Rattle.sz_tree.specs.View.{program_of}
 use Rattle.sz_core.specs.WellFormed.{are_distinct_texts}
-use Rattle.sz_check_laws.specs.TypeStatements.{DeclaresNone}
+use Rattle.sz_check_rules.specs.TypeStatements.{DeclaresNone}
 use Rattle.sz_check.specs.Answering.{Answers}
 use Rattle.sz_check.specs.RoundTypes.{named_shapes}
 use Rattle.sz_check.proofs.RoundLemmas.{all_formed, names_are}
@@ -16,8 +16,9 @@ returns c =
     record {
       value = c.judge_program_with.ensures.value;
       written_first = λ statements declares none. subst (Answers c.judge_program_with.result)
-          (c.types_may_be_written_first.ensures.value (named_shapes types) statements program declares (all_formed types c.requires.sound.formed)
-          (subst (λ (names : List (List _)). IsTrue (are_distinct_texts names)) (names_are types) c.requires.sound.apart)
+          (c.types_may_be_written_first.ensures.value (named_shapes types) statements program declares
+          (all_formed types c.requires.sound.formed) (subst
+          (λ (names : List (List _)). IsTrue (are_distinct_texts names)) (names_are types) c.requires.sound.apart)
           (subst (λ (names : List (List _)). DeclaresNone names program) (names_are types) none))
           c.judge_program_with.ensures.value;
     }

@@ -12,6 +12,7 @@ new-requires c =
     let types = c.args.types.now in
     let program = core_of (map item_of c.in_ok-items.items.items) c.in_ok-items.locals in
     record {
-      sound = c.judged_programs_are_sound.ensures.with_types (named_shapes types) (all_formed types c.requires.sound.formed) (program_of c.args.tree.now) program
+      sound = c.judged_programs_are_sound.ensures.with_types (named_shapes types)
+          (all_formed types c.requires.sound.formed) (program_of c.args.tree.now) program
           c.in_ok-items.ensures.value;
     }

@@ -5,4 +5,5 @@ use Rattle.sz_check_emits.specs.Hidden.{hidden_of}
 use Rattle.sz_check_emits.proofs.emitting.hide_names.Given as goal
 
 abbrev pub invariant-loop-name : goal.invariant-loop-name
-invariant-loop-name l = hidden_of l.hidden.items ++ texts_of (drop l.name-index l.names) ≡ hidden_of l.fn.hidden.items ++ texts_of l.names
+invariant-loop-name l =
+    hidden_of l.hidden.items ++ texts_of (drop l.name-index l.names) ≡ hidden_of l.fn.hidden.items ++ texts_of l.names

@@ -9,22 +9,26 @@ pub returns-in_err-agrees : goal.returns-in_err-agrees
 returns-in_err-agrees c =
     let p = err_from_is_err_and c.from_residual.result c.from_residual.ensures.1 in
     let turn =
-    agree_turn (asks_of c.loop-i.asks) c.args.trees.now c.args.nodes.now c.loop-i.i c.index-trees-i.result c.index-nodes-i.result
+    agree_turn
+    (asks_of c.loop-i.asks) c.args.trees.now c.args.nodes.now c.loop-i.i c.index-trees-i.result c.index-nodes-i.result
     (omega arith) (omega arith) c.index-trees-i.is c.index-nodes-i.is in
     record {
-      value = rw (p.1, p.2) (stops_then c.in_err-agrees.field-0.0 _ _ _ (rw c.first.ensures.value at c.in_err-agrees.ensures.value)
+      value = rw (p.1, p.2)
+          (stops_then c.in_err-agrees.field-0.0 _ _ _ (rw c.first.ensures.value at c.in_err-agrees.ensures.value)
           (sym turn ∙ c.loop-i.invariant));
     }
 
 pub loop-i-preserved : goal.loop-i-preserved
 loop-i-preserved c =
     let turn =
-    agree_turn (asks_of c.loop-i.asks) c.args.trees.now c.args.nodes.now c.loop-i.i c.index-trees-i.result c.index-nodes-i.result
+    agree_turn
+    (asks_of c.loop-i.asks) c.args.trees.now c.args.nodes.now c.loop-i.i c.index-trees-i.result c.index-nodes-i.result
     (omega arith) (omega arith) c.index-trees-i.is c.index-nodes-i.is in
     rw c.following-asks.ensures.value
     (goes_on _ _ _ _ (rw c.first.ensures.value at c.in_ok-agrees.ensures.value) (sym turn ∙ c.loop-i.invariant))
 
 pub returns : goal.returns
 returns c = record {
-  value = sym c.loop-i.invariant ∙ agree_over (asks_of c.loop-i.asks) c.args.trees.now c.args.nodes.now c.loop-i.i (omega arith);
+  value = sym c.loop-i.invariant
+      ∙ agree_over (asks_of c.loop-i.asks) c.args.trees.now c.args.nodes.now c.loop-i.i (omega arith);
 }

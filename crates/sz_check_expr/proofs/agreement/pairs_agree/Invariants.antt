@@ -10,5 +10,6 @@ use Rattle.sz_check_expr.proofs.agreement.pairs_agree.Given as goal
 
 abbrev pub invariant-loop-i : goal.invariant-loop-i
 invariant-loop-i l =
-    pairs_agree (seen l.key) (seen l.value) (pairs_of (map pair_of (drop l.i l.trees))) (pairings_of (map pairing_of (drop l.i l.nodes)))
+    pairs_agree (seen l.key) (seen l.value) (pairs_of (map pair_of (drop l.i l.trees)))
+    (pairings_of (map pairing_of (drop l.i l.nodes)))
     ≡ pairs_agree (seen l.key) (seen l.value) (pairs_of (map pair_of l.trees)) (pairings_of (map pairing_of l.nodes))

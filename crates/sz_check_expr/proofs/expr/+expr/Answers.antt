@@ -18,7 +18,8 @@ judge_exps-returns-in_err-node t c =
     let blocks = blocks_for c.args.known.now c.args.site in
     let front = map node_of c.loop-tree.nodes.items in
     record {
-      value = rw (p.1, p.2) (exps_fails blocks (may_emit c.args.site) front (asks_of c.loop-tree.asks) c.args.trees.now c.loop-tree.tree-index
+      value = rw (p.1, p.2) (exps_fails blocks (may_emit c.args.site) front
+          (asks_of c.loop-tree.asks) c.args.trees.now c.loop-tree.tree-index
           c.tree-item.result c.in_err-node.field-0.0 _ (omega arith) c.tree-item.is
           (rw c.first.ensures.value at c.in_err-node.ensures.value) c.loop-tree.invariant);
     }
@@ -37,7 +38,8 @@ judge_exps-returns t c =
     let blocks = blocks_for c.args.known.now c.args.site in
     let front = map node_of c.loop-tree.nodes.items in
     record {
-      value = exps_ends blocks (may_emit c.args.site) front (asks_of c.loop-tree.asks) c.args.trees.now c.loop-tree.tree-index _ (omega arith)
+      value = exps_ends blocks (may_emit c.args.site) front
+          (asks_of c.loop-tree.asks) c.args.trees.now c.loop-tree.tree-index _ (omega arith)
           c.loop-tree.invariant;
     }
 
@@ -46,13 +48,17 @@ pub judge_exp-returns-in_err-last-in-Slice : goal.judge_exp-returns-in_err-last-
 judge_exp-returns-in_err-last-in-Slice t c =
     let p = err_from_is_err_and c.from_residual-in_err-last-in-Slice.result c.from_residual-in_err-last-in-Slice.ensures.1 in
     let blocks = blocks_for c.args.known.now c.args.site in
-    let stopped = slice_stops blocks (may_emit c.args.site) (asked_of c.args.asked) c.in-Slice.place (tree_of c.in-Slice.part.value) (tree_of c.in-Slice.from.value)
-    (tree_of c.in-Slice.to.value) (node_of c.in_ok-node-in-Slice.node.value) (node_of c.in_ok-first-in-Slice.first.value) c.in_err-last-in-Slice.field-0.0
-    (rw c.deref-in-Slice.ensures at c.in_ok-node-in-Slice.ensures.value) (rw c.deref-in-Slice-2.ensures at c.in_ok-first-in-Slice.ensures.value)
+    let stopped = slice_stops blocks (may_emit c.args.site)
+    (asked_of c.args.asked) c.in-Slice.place (tree_of c.in-Slice.part.value) (tree_of c.in-Slice.from.value)
+    (tree_of c.in-Slice.to.value) (node_of c.in_ok-node-in-Slice.node.value)
+    (node_of c.in_ok-first-in-Slice.first.value) c.in_err-last-in-Slice.field-0.0
+    (rw c.deref-in-Slice.ensures at c.in_ok-node-in-Slice.ensures.value)
+    (rw c.deref-in-Slice-2.ensures at c.in_ok-first-in-Slice.ensures.value)
     (rw c.deref-in-Slice-3.ensures at c.in_err-last-in-Slice.ensures.value) in
     record {
       value = rw (p.1, p.2)
-          (subst (λ (e : _). Stops c.in_err-last-in-Slice.field-0.0 (judge_exp blocks (may_emit c.args.site) (asked_of c.args.asked) (tree_of e)))
+          (subst (λ (e : _). Stops c.in_err-last-in-Slice.field-0.0
+          (judge_exp blocks (may_emit c.args.site) (asked_of c.args.asked) (tree_of e)))
           (sym c.in-Slice.is) stopped);
     }
 
@@ -106,6 +112,7 @@ judge_pairs-returns t c =
     let blocks = blocks_for c.args.known.now c.args.site in
     let front = map pairing_of c.loop-tree.nodes.items in
     record {
-      value = pairs_ends blocks (may_emit c.args.site) front (asked_of c.args.key) (asked_of c.args.value) c.args.trees.now c.loop-tree.tree-index
+      value = pairs_ends blocks (may_emit c.args.site) front (asked_of c.args.key)
+          (asked_of c.args.value) c.args.trees.now c.loop-tree.tree-index
           _ (omega arith) c.loop-tree.invariant;
     }

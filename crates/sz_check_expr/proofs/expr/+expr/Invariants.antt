@@ -15,11 +15,13 @@ use Rattle.sz_check_expr.proofs.expr.+expr.Given as goal
 
 abbrev pub invariant-judge_exps-loop-tree : goal.invariant-judge_exps-loop-tree
 invariant-judge_exps-loop-tree l =
-    following with_node (map node_of l.nodes.items) (exps_from (blocks_for l.known l.site) (may_emit l.site) (asks_of l.asks) l.trees l.tree-index)
+    following with_node (map node_of l.nodes.items)
+    (exps_from (blocks_for l.known l.site) (may_emit l.site) (asks_of l.asks) l.trees l.tree-index)
     ≡ judge_exps (blocks_for l.known l.site) (may_emit l.site) (asks_of l.fn.asks) (exps_of (map tree_of l.trees))
 
 abbrev pub invariant-judge_pairs-loop-tree : goal.invariant-judge_pairs-loop-tree
 invariant-judge_pairs-loop-tree l =
     following with_pair (map pairing_of l.nodes.items)
     (pairs_from (blocks_for l.known l.site) (may_emit l.site) (asked_of l.key) (asked_of l.value) l.trees l.tree-index)
-    ≡ judge_pairs (blocks_for l.known l.site) (may_emit l.site) (asked_of l.key) (asked_of l.value) (pairs_of (map pair_of l.trees))
+    ≡ judge_pairs (blocks_for l.known l.site) (may_emit l.site) (asked_of l.key) (asked_of l.value)
+    (pairs_of (map pair_of l.trees))

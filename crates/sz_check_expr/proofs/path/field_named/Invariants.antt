@@ -6,4 +6,5 @@ use Rattle.sz_check_rules.specs.Agreeing.{field_named}
 use Rattle.sz_check_expr.proofs.path.field_named.Given as goal
 
 abbrev pub invariant-loop-i : goal.invariant-loop-i
-invariant-loop-i l = field_named l.name l.i (fields_of (map seen_field (drop l.i l.fields))) ≡ field_named l.name 0 (fields_of (map seen_field l.fields))
+invariant-loop-i l = field_named l.name l.i (fields_of (map seen_field (drop l.i l.fields)))
+    ≡ field_named l.name 0 (fields_of (map seen_field l.fields))

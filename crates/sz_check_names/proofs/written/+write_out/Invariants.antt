@@ -7,7 +7,8 @@ use Rattle.sz_check_names.proofs.WrittenLemmas.{depths}
 use Rattle.sz_check_names.proofs.written.+write_out.Given as goal
 
 abbrev pub invariant-write_out_fields-loop-field : goal.invariant-write_out_fields-loop-field
-invariant-write_out_fields-loop-field l = map seen_field l.stored.items ≡ map (field_in (shapes_of l.types)) (take l.field-index l.fields)
+invariant-write_out_fields-loop-field l =
+    map seen_field l.stored.items ≡ map (field_in (shapes_of l.types)) (take l.field-index l.fields)
 
 abbrev pub decreases-write_out : goal.decreases-write_out
 decreases-write_out l = 2 * (size-Written l.written.now + depths l.types.now)

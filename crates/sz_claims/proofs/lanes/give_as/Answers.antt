@@ -1,7 +1,7 @@
 use Rattle.std.proofs.Common.{ℕ, ◌++◌, refl, sym, subst}
 use Rattle.atomic_table.specs.Table.{Me, Allows}
 use Rattle.sz_claims.specs.declared.view.View.{View}
-use Rattle.sz_claims.specs.Rule.{Slot, Kept, Given, turn_at}
+use Rattle.sz_claims.specs.Rule.{view_of, Slot, Kept, Given, turn_at}
 use Rattle.sz_claims.proofs.LaneLemmas.{gives_back}
 use Rattle.sz_claims.proofs.lanes.give_as.Goals as goal
 
@@ -16,7 +16,7 @@ store-requires g c =
       c.requires.table.0,
       c.requires.table.1,
       subst (λ j. P j seat.me) (sym c.requires.table.2)
-          (subst (λ slots. P (turn_at key.plan lane) (seat.me.0, slots)) (sym c.requires.has_lane.2)
-          (gives_back g.T.Load.died g.T.Load.is_bad key.plan key.lanes c.args.shared.now.table_id.slots seat.id seat.me.0 lane
-          (seat.me.0.lent ++ shards) shards c.requires.has_lane.0 c.requires.has_lane.1 refl c.requires.further)),
+          (subst (λ slots. P (turn_at key.plan lane) (view_of seat.me, slots)) (sym c.requires.has_lane.2)
+          (gives_back g.T.Load.died g.T.Load.is_bad key.plan key.lanes c.args.shared.now.table_id.slots seat.id (view_of seat.me) lane
+          ((view_of seat.me).lent ++ shards) shards c.requires.has_lane.0 c.requires.has_lane.1 refl c.requires.further)),
     )

@@ -6,4 +6,5 @@ use Rattle.sz_core.specs.WellFormed.{are_whole_numbers}
 use Rattle.sz_core.proofs.allowed.are_whole_numbers.Given as goal
 
 abbrev pub invariant-loop-field : goal.invariant-loop-field
-invariant-loop-field l = are_whole_numbers (fields_of (map seen_field (drop l.field-index l.fields))) ≡ are_whole_numbers (fields_of (map seen_field l.fields))
+invariant-loop-field l = are_whole_numbers (fields_of (map seen_field (drop l.field-index l.fields)))
+    ≡ are_whole_numbers (fields_of (map seen_field l.fields))

@@ -14,7 +14,8 @@ returns c =
     record {
       heap = c.trim.ensures.heap;
       few = c.trim.ensures.few;
-      value = kept_of_kept c.args.limit (ranks old ++ seen_rank c.args.ranked ∷ []) (ranks now) (ranks (heap_items c.trim.new.heap))
+      value = kept_of_kept c.args.limit (ranks old ++ seen_rank c.args.ranked ∷ []) (ranks now)
+          (ranks (heap_items c.trim.new.heap))
           (one_more c.args.limit old now c.args.ranked moved) c.trim.ensures.value;
       capacity = omega (arith, c.push.ensures.capacity, c.trim.ensures.capacity);
     }

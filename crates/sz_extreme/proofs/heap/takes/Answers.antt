@@ -15,6 +15,8 @@ returns-in-Some c =
     let long : c.args.limit ≤ length items = search rules in
     record {
       not = λ no.
-          passed_over c.args.limit items c.in-Some.worst.now (c.args.rank, seen c.args.value.now) long (c.in-Some.ensures.greatest c.requires.heap)
-          (sym (ap (λ n. is_lt (by_rank (n, seen c.args.value.now) (seen_rank c.in-Some.worst.now))) again) ∙ sym c.is_before.ensures.value ∙ no);
+          passed_over c.args.limit items c.in-Some.worst.now (c.args.rank, seen c.args.value.now) long
+          (c.in-Some.ensures.greatest c.requires.heap)
+          (sym (ap (λ n. is_lt (by_rank (n, seen c.args.value.now) (seen_rank c.in-Some.worst.now))) again)
+          ∙ sym c.is_before.ensures.value ∙ no);
     }

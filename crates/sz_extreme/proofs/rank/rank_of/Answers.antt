@@ -16,7 +16,8 @@ returns c =
     let rank_fits : FitsSigned w64 rank = record { sfits = c.turned.type_inv } in
     let same = to_z-of_z w64 rank rank_fits in
     record {
-      value = ap (λ n. Some (turned kind n)) (same ∙ c.turned.ensures.value ∙ ap (turned kind) (to_z-of_z w64 weight weight_fits))
+      value = ap (λ n. Some (turned kind n))
+          (same ∙ c.turned.ensures.value ∙ ap (turned kind) (to_z-of_z w64 weight weight_fits))
           ∙ ap Some (weight_again kind weight) ∙ sym c.unwrap.ensures;
       fits = subst (FitsSigned w64) (sym same) rank_fits;
     }

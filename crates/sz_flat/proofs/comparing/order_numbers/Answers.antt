@@ -15,7 +15,9 @@ returns-clause-value c =
     let second = c.in-Ok-read_number.ensures.value in
     let after = c.in-Ok.after.now in
     let behind = c.in-Ok-read_number.behind.now in
-    both_read numbers int_cmp c.args.one.now c.args.other.now c.walked.result same_number c.in-Ok.number c.in-Ok-read_number.other_number after behind first second
+    both_read numbers int_cmp c.args.one.now c.args.other.now c.walked.result same_number
+    c.in-Ok.number c.in-Ok-read_number.other_number after behind first second
     (subst (λ o. Finds o after behind c.walked.result)
-    (c.cmp.ensures ∙ (λ i. int_cmp (to_z-of_z w64 c.in-Ok.number first.has i) (to_z-of_z w64 c.in-Ok-read_number.other_number second.has i)))
+    (c.cmp.ensures ∙ (λ i. int_cmp (to_z-of_z w64 c.in-Ok.number first.has i)
+    (to_z-of_z w64 c.in-Ok-read_number.other_number second.has i)))
     c.walked.ensures.value)

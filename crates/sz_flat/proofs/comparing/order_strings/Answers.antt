@@ -12,6 +12,7 @@ pub returns-clause-value : goal.returns-clause-value
 returns-clause-value c =
     let after = c.in-Ok.after.now in
     let behind = c.in-Ok-read_string.behind.now in
-    both_read strings (slice_cmp nat_cmp) c.args.one.now c.args.other.now c.walked.result same_string c.in-Ok.string.now c.in-Ok-read_string.other_string.now
+    both_read strings (slice_cmp nat_cmp) c.args.one.now c.args.other.now c.walked.result same_string
+    c.in-Ok.string.now c.in-Ok-read_string.other_string.now
     after behind c.in-Ok.ensures.value c.in-Ok-read_string.ensures.value
     (subst (λ o. Finds o after behind c.walked.result) c.cmp.ensures c.walked.ensures.value)

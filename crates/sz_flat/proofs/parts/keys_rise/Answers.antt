@@ -15,8 +15,8 @@ returns-then-not-is_lt c =
       value = (
         λ claim. absurd (true≢false (sym claim)),
         λ rise. absurd (true≢false (sym (ap is_lt (c.order.ensures.value ∙ sym there
-            ∙ less_at c.args.pairs.now c.loop-i.i c.index-pairs-i.result c.index-pairs-i-in-loop-i.result (omega (arith, low)) c.loop-i-test.true c.index-pairs-i.is
-            c.index-pairs-i-in-loop-i.is rise)) ∙ found)),
+            ∙ less_at c.args.pairs.now c.loop-i.i c.index-pairs-i.result c.index-pairs-i-in-loop-i.result
+            (omega (arith, low)) c.loop-i-test.true c.index-pairs-i.is c.index-pairs-i-in-loop-i.is rise)) ∙ found)),
       );
     }
 
@@ -24,5 +24,6 @@ pub loop-i-preserved : goal.loop-i-preserved
 loop-i-preserved c =
     let low = c.loop-i.near-i in
     let there = compared _ _ _ _ c.index-pairs-i.is c.index-pairs-i-in-loop-i.is in
-    rise_next c.args.pairs.now c.loop-i.i c.index-pairs-i.result c.index-pairs-i-in-loop-i.result (omega (arith, low)) c.loop-i-test.true c.index-pairs-i.is
-    c.index-pairs-i-in-loop-i.is c.loop-i.invariant (there ∙ sym c.order.ensures.value ∙ is_less c.order.result (sym c.is_lt.ensures ∙ c.if-not-is_lt.false))
+    rise_next c.args.pairs.now c.loop-i.i c.index-pairs-i.result c.index-pairs-i-in-loop-i.result (omega (arith, low))
+    c.loop-i-test.true c.index-pairs-i.is c.index-pairs-i-in-loop-i.is c.loop-i.invariant
+    (there ∙ sym c.order.ensures.value ∙ is_less c.order.result (sym c.is_lt.ensures ∙ c.if-not-is_lt.false))

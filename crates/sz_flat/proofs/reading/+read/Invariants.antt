@@ -5,10 +5,12 @@ use Rattle.sz_flat.specs.Reading.{values, pair, all_of, Stands}
 use Rattle.sz_flat.proofs.reading.+read.Given as goal
 
 abbrev pub invariant-read_parts-loop : goal.invariant-read_parts-loop
-invariant-read_parts-loop l = Stands (all_of values l.counter) l.flat (map seen l.values.items) l.rest × (l.counter ≤ l.count) × (length l.rest ≤ length l.flat)
+invariant-read_parts-loop l = Stands (all_of values l.counter) l.flat (map seen l.values.items) l.rest
+    × (l.counter ≤ l.count) × (length l.rest ≤ length l.flat)
 
 abbrev pub invariant-read_pairs-loop : goal.invariant-read_pairs-loop
-invariant-read_pairs-loop l = Stands (all_of pair l.counter) l.flat (map seen_pair l.pairs.items) l.rest × (l.counter ≤ l.count) × (length l.rest ≤ length l.flat)
+invariant-read_pairs-loop l = Stands (all_of pair l.counter) l.flat (map seen_pair l.pairs.items) l.rest
+    × (l.counter ≤ l.count) × (length l.rest ≤ length l.flat)
 
 abbrev pub decreases-read_value : goal.decreases-read_value
 decreases-read_value l = 4 * length l.flat.now

@@ -9,4 +9,7 @@ pub returns-in_err-number : goal.returns-in_err-number
 returns-in_err-number c =
     let p = err_from_is_err_and c.from_residual.result c.from_residual.ensures.1 in
     let flat = c.args.flat.now in
-    record { value = rw (p.1, p.2) (stops_too numbers values flat (2 ∷ flat) c.in_err-number.field-0.0 (no_int flat) c.in_err-number.ensures.value) }
+    record {
+      value = rw (p.1, p.2) (stops_too numbers values flat
+          (2 ∷ flat) c.in_err-number.field-0.0 (no_int flat) c.in_err-number.ensures.value);
+    }

@@ -9,4 +9,7 @@ pub returns-in_err-string : goal.returns-in_err-string
 returns-in_err-string c =
     let p = err_from_is_err_and c.from_residual.result c.from_residual.ensures.1 in
     let flat = c.args.flat.now in
-    record { value = rw (p.1, p.2) (stops_too strings values flat (5 ∷ flat) c.in_err-string.field-0.0 (no_octets flat) c.in_err-string.ensures.value) }
+    record {
+      value = rw (p.1, p.2) (stops_too strings values flat
+          (5 ∷ flat) c.in_err-string.field-0.0 (no_octets flat) c.in_err-string.ensures.value);
+    }

@@ -40,7 +40,8 @@ spell-returns-in-Array t c =
     let new = c.spell_list.new.out.items in
     record {
       value = subst (λ d. OnOk c.spell_list.result (Adds values old new d)) (sym (ap seen c.in-Array.is))
-          (on_both c.spell_list.result (array_added old new list (few_parts list parts.0)) c.spell_list.ensures.spelled c.spell_list.ensures.value);
+          (on_both c.spell_list.result (array_added old new list (few_parts list parts.0))
+          c.spell_list.ensures.spelled c.spell_list.ensures.value);
     }
 
 pub spell-returns-in-Tuple : goal.spell-returns-in-Tuple
@@ -52,7 +53,8 @@ spell-returns-in-Tuple t c =
     let result = c.spell_list-in-Tuple.result in
     record {
       value = subst (λ d. OnOk result (Adds values old new d)) (sym (ap seen c.in-Tuple.is))
-          (on_both result (tuple_added old new list (few_parts list parts.0)) c.spell_list-in-Tuple.ensures.spelled c.spell_list-in-Tuple.ensures.value);
+          (on_both result (tuple_added old new list (few_parts list parts.0))
+          c.spell_list-in-Tuple.ensures.spelled c.spell_list-in-Tuple.ensures.value);
     }
 
 pub spell-returns-in-Map : goal.spell-returns-in-Map
@@ -65,13 +67,14 @@ spell-returns-in-Map t c =
     record {
       value = subst (λ d. OnOk result (Adds values old new d)) (sym (ap seen c.in-Map.is))
           (on_both result (λ f x. f x)
-          (on_both result (mapping_added old new pairs (few_pairs pairs parts.0)) c.spell_map.ensures.rising c.spell_map.ensures.spelled) c.spell_map.ensures.value);
+          (on_both result (mapping_added old new pairs (few_pairs pairs parts.0))
+          c.spell_map.ensures.rising c.spell_map.ensures.spelled) c.spell_map.ensures.value);
     }
 
 pub spell_list-returns-clause-spelled : goal.spell_list-returns-clause-spelled
 spell_list-returns-clause-spelled t c =
-    on_one c.spell_parts.result (λ h. subst (λ ds. HaveSpellings (data_of ds)) c.as_slice.ensures.value (parts_have (map seen c.as_slice.result.now) h.has.1))
-    c.spell_parts.ensures.value
+    on_one c.spell_parts.result (λ h. subst (λ ds. HaveSpellings (data_of ds)) c.as_slice.ensures.value
+    (parts_have (map seen c.as_slice.result.now) h.has.1)) c.spell_parts.ensures.value
 
 pub spell_list-returns-clause-value : goal.spell_list-returns-clause-value
 spell_list-returns-clause-value t c =
@@ -85,12 +88,14 @@ spell_list-returns-clause-value t c =
     let long = ap length (sym c.as_slice.ensures.value) ∙ length-map c.as_slice.result.now seen in
     on_one c.spell_parts.result
     (λ h. list_added old now new kind (length list) list counted
-    (let both : Adds (all_of values (length list)) now new list = subst (λ n. Adds (all_of values n) now new list) (sym long)
+    (let both : Adds (all_of values (length list)) now new list =
+    subst (λ n. Adds (all_of values n) now new list) (sym long)
     (subst (λ ds. Adds (all_of values (length c.as_slice.result.now)) now new ds) c.as_slice.ensures.value h) in both))
     c.spell_parts.ensures.value
 
 pub spell_map-returns-clause-spelled : goal.spell_map-returns-clause-spelled
-spell_map-returns-clause-spelled t c = on_one c.spell_pairs.result (λ h. pairs_have c.args.pairs.now h.has.1) c.spell_pairs.ensures.value
+spell_map-returns-clause-spelled t c =
+    on_one c.spell_pairs.result (λ h. pairs_have c.args.pairs.now h.has.1) c.spell_pairs.ensures.value
 
 pub spell_map-returns-clause-value : goal.spell_map-returns-clause-value
 spell_map-returns-clause-value t c =
@@ -98,22 +103,27 @@ spell_map-returns-clause-value t c =
     let now = c.spell_length.new.out.items in
     let new = c.spell_pairs.new.out.items in
     let pairs = c.args.pairs.now in
-    let counted : now ≡ old ++ 8 ∷ length_bytes (length pairs) = c.in_ok-spell_length.ensures.value ∙ (λ i. old ++ 8 ∷ length_bytes (c.len.ensures.value i)) in
+    let counted : now ≡ old ++ 8 ∷ length_bytes (length pairs) =
+    c.in_ok-spell_length.ensures.value ∙ (λ i. old ++ 8 ∷ length_bytes (c.len.ensures.value i)) in
     on_one c.spell_pairs.result (map_added old now new 8 (length pairs) pairs counted) c.spell_pairs.ensures.value
 
 pub spell_pairs-spell-requires : goal.spell_pairs-spell-requires
 spell_pairs-spell-requires t c =
     let pairs = c.args.pairs.now in
     let one = seen_pair c.pair-pair.result.now in
-    let nodes = pair_nodes one pairs c.loop-place.place c.pair-pair.ensures.value in
-    (omega (arith, nodes, c.decreases), (short_pair one pairs c.loop-place.place c.pair-pair.ensures.value c.requires.short).0)
+    let nodes = pair_nodes one pairs c.loop-place.place c.pair-pair.ensures.value in (
+      omega (arith, nodes, c.decreases),
+      (short_pair one pairs c.loop-place.place c.pair-pair.ensures.value c.requires.short).0,
+    )
 
 pub spell_pairs-spell-requires-in-loop-place : goal.spell_pairs-spell-requires-in-loop-place
 spell_pairs-spell-requires-in-loop-place t c =
     let pairs = c.args.pairs.now in
     let one = seen_pair c.pair-pair.result.now in
-    let nodes = pair_nodes one pairs c.loop-place.place c.pair-pair.ensures.value in
-    (omega (arith, nodes, c.decreases), (short_pair one pairs c.loop-place.place c.pair-pair.ensures.value c.requires.short).1)
+    let nodes = pair_nodes one pairs c.loop-place.place c.pair-pair.ensures.value in (
+      omega (arith, nodes, c.decreases),
+      (short_pair one pairs c.loop-place.place c.pair-pair.ensures.value c.requires.short).1,
+    )
 
 pub spell_pairs-loop-place-preserved : goal.spell_pairs-loop-place-preserved
 spell_pairs-loop-place-preserved t c =
@@ -122,13 +132,15 @@ spell_pairs-loop-place-preserved t c =
     let pairs = c.args.pairs.now in
     let old = c.args.out.now.items in
     let new = c.spell-in-loop-place.new.out.items in
-    let one = pair_added c.loop-place.out.items c.spell.new.out.items new (seen p.key) (seen p.value) c.in_ok-spell.ensures.value c.in_ok-spell-2.ensures.value in
+    let one = pair_added c.loop-place.out.items c.spell.new.out.items new (seen p.key)
+    (seen p.value) c.in_ok-spell.ensures.value c.in_ok-spell-2.ensures.value in
     subst (Adds (all_of pair (i + 1)) old new) (sym (pair_taken (seen_pair p) pairs i c.pair-pair.ensures.value))
     (one_more_added pair old c.loop-place.out.items new (take i pairs) (seen_pair p) i c.loop-place.invariant one)
 
 pub spell_parts-spell-requires : goal.spell_parts-spell-requires
 spell_parts-spell-requires t c =
-    let nodes = part_nodes c.args.parts.now c.loop-part.part-index c.part-item.result c.loop-part-test.true c.part-item.is in
+    let nodes =
+    part_nodes c.args.parts.now c.loop-part.part-index c.part-item.result c.loop-part-test.true c.part-item.is in
     let short = c.requires.short c.loop-part.part-index c.part-item.result c.loop-part-test.true in
     (omega (arith, nodes, c.decreases), subst (λ v. HasShortLengths (seen v)) (sym c.part-item.is) short)
 
@@ -138,10 +150,14 @@ spell_parts-loop-part-preserved t c =
     let v = c.part-item.result in
     let old = c.args.out.now.items in
     let new = c.spell.new.out.items in
-    subst (Adds (all_of values (i + 1)) old new) (sym (taken_more seen c.args.parts.now i v c.loop-part-test.true c.part-item.is))
-    (one_more_added values old c.loop-part.out.items new (map seen (take i c.args.parts.now)) (seen v) i c.loop-part.invariant c.in_ok-spell.ensures.value)
+    subst (Adds (all_of values (i + 1)) old new)
+    (sym (taken_more seen c.args.parts.now i v c.loop-part-test.true c.part-item.is))
+    (one_more_added values old c.loop-part.out.items new (map seen (take i c.args.parts.now))
+    (seen v) i c.loop-part.invariant c.in_ok-spell.ensures.value)
 
 pub spell_list-spell_parts-requires : goal.spell_list-spell_parts-requires
 spell_list-spell_parts-requires t c =
-    let nodes = ap parts_nodes c.as_slice.ensures.value in
-    (omega (arith, nodes, c.decreases), short_parts c.as_slice.result.now c.args.list.now c.as_slice.ensures.value c.requires.short)
+    let nodes = ap parts_nodes c.as_slice.ensures.value in (
+      omega (arith, nodes, c.decreases),
+      short_parts c.as_slice.result.now c.args.list.now c.as_slice.ensures.value c.requires.short,
+    )

@@ -6,7 +6,8 @@ use Rattle.sz_flat.specs.Reading.{values, pair, all_of, Adds}
 use Rattle.sz_flat.proofs.writing.+spell.Given as goal
 
 abbrev pub invariant-spell_parts-loop-part : goal.invariant-spell_parts-loop-part
-invariant-spell_parts-loop-part l = Adds (all_of values l.part-index) l.initial.out.items l.out.items (map seen (take l.part-index l.parts))
+invariant-spell_parts-loop-part l =
+    Adds (all_of values l.part-index) l.initial.out.items l.out.items (map seen (take l.part-index l.parts))
 
 abbrev pub invariant-spell_pairs-loop-place : goal.invariant-spell_pairs-loop-place
 invariant-spell_pairs-loop-place l = Adds (all_of pair l.place) l.initial.out.items l.out.items (take l.place l.pairs)

@@ -26,6 +26,7 @@ loop-at-preserved c =
 pub returns : goal.returns
 returns c = record {
   value = c.len.ensures.value
-      ∙ at_end (λ s. alike s (shape_of c.args.ty.now)) c.args.types.now c.loop-at.at c.len-at-end.result c.len-at-end.ensures.value c.loop-at-test.false
+      ∙ at_end (λ s. alike s (shape_of c.args.ty.now))
+      c.args.types.now c.loop-at.at c.len-at-end.result c.len-at-end.ensures.value c.loop-at-test.false
       c.loop-at.auto.at-end c.loop-at.invariant;
 }

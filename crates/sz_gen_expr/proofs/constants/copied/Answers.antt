@@ -11,12 +11,14 @@ loop-value-preserved c =
     ∙ append_assoc c.loop-value.list (seen c.in_ok-made.made ∷ []) rest
     ∙ ap (λ d. c.loop-value.list ++ d ∷ rest) c.in_ok-made.ensures.value
     ∙ ap (λ l. c.loop-value.list ++ l)
-    (sym (rest_more seen c.args.values.now c.loop-value.value-index c.value-item.result c.loop-value-test.true c.value-item.is))
+    (sym (rest_more seen
+    c.args.values.now c.loop-value.value-index c.value-item.result c.loop-value-test.true c.value-item.is))
     ∙ c.loop-value.invariant
 
 pub returns : goal.returns
 returns c = record {
   value = sym (append-nil c.loop-value.list)
-      ∙ ap (λ l. c.loop-value.list ++ l) (sym (rest_none seen c.args.values.now c.loop-value.value-index c.loop-value-test.false))
+      ∙ ap (λ l. c.loop-value.list ++ l)
+      (sym (rest_none seen c.args.values.now c.loop-value.value-index c.loop-value-test.false))
       ∙ c.loop-value.invariant;
 }

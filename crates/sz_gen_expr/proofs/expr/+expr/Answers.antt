@@ -10,10 +10,10 @@ use Rattle.sz_core.specs.View.{node_of, form_of, pairing_of}
 use Rattle.sz_core.proofs.ForCallers.{form_of_call, form_of_builtin, form_of_array, form_of_tuple, form_of_map}
 use Rattle.sz_instr.specs.declared.instr.Instr.TheVariants.{AndTest, OrTest, Call, Apply, Binary, Index, Slice, MakeArray, MakeTuple, MakeMap}
 use Rattle.sz_gen_rules.specs.Tables.{line}
-use Rattle.sz_gen_rules.specs.ExpressionCode.{conversion}
+use Rattle.sz_gen_rules.specs.ExpressionCode.{conversion, count_of}
 use Rattle.sz_gen_rules.specs.Named.{HasTarget}
 use Rattle.sz_gen_expr.specs.Building.{Appends, AppendsLine, AppendsNode, AppendsClosed, AppendsDecided, AppendsNodes, AppendsList, AppendsPairings, AppendsMap, Nothing}
-use Rattle.sz_gen_expr.proofs.Builds.{none, after, closes, closed_by, closed_after, renamed, counted, three_after, of_form, decided_made, starts, stays}
+use Rattle.sz_gen_expr.proofs.Builds.{none, after, closes, closed_by, closed_after, renamed, three_after, of_form, decided_made, starts, stays}
 use Rattle.sz_gen_expr.proofs.Undone.{landed_behind, behind}
 use Rattle.sz_types.proofs.ForCallers.{rest_more, rest_none}
 use Rattle.sz_gen_expr.proofs.expr.+expr.Goals as goal
@@ -86,6 +86,20 @@ pub append_list-returns : goal.append_list-returns
 append_list-returns t c = record {
   made = on_ok_weaker c.close.result (λ h. closed_by c.in_ok-append_all.ensures.made h) c.close.ensures.made;
   kept = λ first g. c.close.ensures.kept first (c.append_all.ensures.kept first g);
+}
+
+pub append_array-returns : goal.append_array-returns
+append_array-returns t c = record {
+  made = on_ok_weaker c.append_list.result (λ h. subst (λ n. AppendsList c.args.into.now c.append_list.new.into (nodes_of (map node_of c.args.es.now))
+      (MakeArray n) c.args.place) c.in_ok-count.ensures.value h) c.append_list.ensures.made;
+  kept = c.append_list.ensures.kept;
+}
+
+pub append_tuple-returns : goal.append_tuple-returns
+append_tuple-returns t c = record {
+  made = on_ok_weaker c.append_list.result (λ h. subst (λ n. AppendsList c.args.into.now c.append_list.new.into (nodes_of (map node_of c.args.es.now))
+      (MakeTuple n) c.args.place) c.in_ok-count.ensures.value h) c.append_list.ensures.made;
+  kept = c.append_list.ensures.kept;
 }
 
 pub append_map-returns : goal.append_map-returns
@@ -208,20 +222,20 @@ append_expr-returns-in-Builtin t c = record {
   kept = c.append_list-in-Builtin.ensures.kept;
 }
 
-pub append_expr-returns-in_ok-count-in-Array : goal.append_expr-returns-in_ok-count-in-Array
-append_expr-returns-in_ok-count-in-Array t c = record {
-  made = on_ok_weaker c.append_list-in-Array.result (λ h. of_form c.args.e.now _ (ap form_of c.in-Array.is ∙ form_of_array _)
-      (counted c.args.into.now c.append_list-in-Array.new.into MakeArray c.args.e.now.place c.as_slice-in-Array.ensures.value c.as_slice-in-Array-2.ensures.value
-      c.in_ok-count-in-Array.ensures.value h)) c.append_list-in-Array.ensures.made;
-  kept = c.append_list-in-Array.ensures.kept;
+pub append_expr-returns-in-Array : goal.append_expr-returns-in-Array
+append_expr-returns-in-Array t c = record {
+  made = on_ok_weaker c.append_array.result (λ h. of_form c.args.e.now _ (ap form_of c.in-Array.is ∙ form_of_array _)
+      (subst (λ (es : List CoreExpr). AppendsList c.args.into.now c.append_array.new.into (nodes_of (map node_of es))
+      (MakeArray (count_of (nodes_of (map node_of es)))) c.args.e.now.place) c.as_slice-in-Array.ensures.value h)) c.append_array.ensures.made;
+  kept = c.append_array.ensures.kept;
 }
 
-pub append_expr-returns-in_ok-count-in-Tuple : goal.append_expr-returns-in_ok-count-in-Tuple
-append_expr-returns-in_ok-count-in-Tuple t c = record {
-  made = on_ok_weaker c.append_list-in-Tuple.result (λ h. of_form c.args.e.now _ (ap form_of c.in-Tuple.is ∙ form_of_tuple _)
-      (counted c.args.into.now c.append_list-in-Tuple.new.into MakeTuple c.args.e.now.place c.as_slice-in-Tuple.ensures.value c.as_slice-in-Tuple-2.ensures.value
-      c.in_ok-count-in-Tuple.ensures.value h)) c.append_list-in-Tuple.ensures.made;
-  kept = c.append_list-in-Tuple.ensures.kept;
+pub append_expr-returns-in-Tuple : goal.append_expr-returns-in-Tuple
+append_expr-returns-in-Tuple t c = record {
+  made = on_ok_weaker c.append_tuple.result (λ h. of_form c.args.e.now _ (ap form_of c.in-Tuple.is ∙ form_of_tuple _)
+      (subst (λ (es : List CoreExpr). AppendsList c.args.into.now c.append_tuple.new.into (nodes_of (map node_of es))
+      (MakeTuple (count_of (nodes_of (map node_of es)))) c.args.e.now.place) c.as_slice-in-Tuple.ensures.value h)) c.append_tuple.ensures.made;
+  kept = c.append_tuple.ensures.kept;
 }
 
 pub append_expr-returns-in-Map : goal.append_expr-returns-in-Map

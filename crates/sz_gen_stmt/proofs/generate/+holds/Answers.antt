@@ -14,7 +14,8 @@ use Rattle.sz_gen_stmt.proofs.generate.+holds.Goals as goal
 -- no variable is left
 pub gen_holds-returns-in_default : goal.gen_holds-returns-in_default
 gen_holds-returns-in_default t c = record {
-  made = on_ok_weaker c.free.result (λ h. subst (λ vs. AppendsHolds c.args.into.now c.free.new.into c.args.place vs (node_of c.args.condition.now)
+  made = on_ok_weaker c.free.result
+      (λ h. subst (λ vs. AppendsHolds c.args.into.now c.free.new.into c.args.place vs (node_of c.args.condition.now)
       c.args.fail)
       (sym (rest_none quantified_of c.args.variables.now 0 (omega (arith, c.in_default.len_below))))
       (renamed (λ tables n. (tt, n)) (no_more (after c.in_ok-gen_expr.ensures.made h)))) c.free.ensures.made;
@@ -22,12 +23,14 @@ gen_holds-returns-in_default t c = record {
 
 pub gen_every-land-requires : goal.gen_every-land-requires
 gen_every-land-requires t c = record {
-  within = stays (stays (starts c.in_ok-entry.ensures.at c.in_ok-entry.ensures.made) c.in_ok-free.ensures.made) c.in_ok-free-2.ensures.made;
+  within = stays (stays (starts c.in_ok-entry.ensures.at c.in_ok-entry.ensures.made) c.in_ok-free.ensures.made)
+      c.in_ok-free-2.ensures.made;
 }
 
 pub gen_every-land-requires-2 : goal.gen_every-land-requires-2
 gen_every-land-requires-2 t c = record {
-  within = stays (stays (starts c.in_ok-next.ensures.at c.in_ok-next.ensures.made) c.in_ok-gen_holds.ensures.made) c.in_ok-free-3.ensures.made;
+  within = stays (stays (starts c.in_ok-next.ensures.at c.in_ok-next.ensures.made) c.in_ok-gen_holds.ensures.made)
+      c.in_ok-free-3.ensures.made;
 }
 
 pub gen_every-returns : goal.gen_every-returns
@@ -39,5 +42,6 @@ gen_every-returns t c = record {
       c.args.place c.in_ok-entry.entry c.here-away.result c.in_ok-next.next c.args.fail
       c.in_ok-gen_candidates.ensures.made c.in_ok-entry.ensures.at c.in_ok-entry.ensures.made
       c.here-away.ensures.value c.in_ok-free.ensures.made c.in_ok-free-2.ensures.made c.land.ensures.made
-      c.in_ok-next.ensures.at c.in_ok-next.ensures.made c.in_ok-gen_holds.ensures.made c.in_ok-free-3.ensures.made c.land-2.ensures.made);
+      c.in_ok-next.ensures.at c.in_ok-next.ensures.made c.in_ok-gen_holds.ensures.made c.in_ok-free-3.ensures.made
+      c.land-2.ensures.made);
 }

@@ -9,7 +9,8 @@ use Rattle.sz_gen_stmt.proofs.generate.+statements.Given as goal
 
 abbrev pub invariant-gen_stmts-loop-statement : goal.invariant-gen_stmts-loop-statement
 invariant-gen_stmts-loop-statement l =
-    (new : Builder) → AppendsStms l.into new (stms_of (map stm_of (drop l.statement-index l.statements))) (exits_of l.out)
+    (new : Builder)
+    → AppendsStms l.into new (stms_of (map stm_of (drop l.statement-index l.statements))) (exits_of l.out)
     → AppendsStms l.fn.into new (stms_of (map stm_of l.statements)) (exits_of l.out)
 
 abbrev pub decreases-gen_stmt : goal.decreases-gen_stmt

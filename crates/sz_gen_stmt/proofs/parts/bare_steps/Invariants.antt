@@ -5,4 +5,5 @@ use Rattle.sz_gen_rules.specs.StatementCode.{bare_step}
 use Rattle.sz_gen_stmt.proofs.parts.bare_steps.Given as goal
 
 abbrev pub invariant-loop-step : goal.invariant-loop-step
-invariant-loop-step l = l.steps ++ map bare_step (map step_of (drop l.step-index l.path)) ≡ map bare_step (map step_of l.path)
+invariant-loop-step l =
+    l.steps ++ map bare_step (map step_of (drop l.step-index l.path)) ≡ map bare_step (map step_of l.path)

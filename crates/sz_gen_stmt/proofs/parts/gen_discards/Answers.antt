@@ -11,4 +11,6 @@ loop-preserved c = discards_more c.loop.counter c.loop.invariant c.in_ok-free.en
 pub returns : goal.returns
 returns c =
     let all : c.loop.counter ≡ c.args.count = omega arith in
-    record { made = subst (λ n. Appends c.args.into.now c.loop.into (λ tables at. discards n) Nothing) all c.loop.invariant }
+    record {
+      made = subst (λ n. Appends c.args.into.now c.loop.into (λ tables at. discards n) Nothing) all c.loop.invariant;
+    }

@@ -14,7 +14,8 @@ returns c = record {
   made = on_ok_weaker c.close.result (λ h. closed_by
       (three_after c.in_ok-gen_all.ensures.made c.in_ok-gen_expr.ensures.made c.in_ok-gen_if_some.ensures.made)
       (subst (λ n. AppendsLine c.gen_if_some.new.into c.close.new.self
-      (λ tables. Emit c.args.table n (is_some (option_map node_of c.args.weight.now))) 1 c.args.place Nothing) c.in_ok-count.ensures.value
-      (subst (λ b. AppendsLine c.gen_if_some.new.into c.close.new.self (λ tables. Emit c.args.table c.in_ok-count.count b) 1 c.args.place Nothing)
+      (λ tables. Emit c.args.table n (is_some (option_map node_of c.args.weight.now))) 1 c.args.place Nothing)
+      c.in_ok-count.ensures.value (subst (λ b. AppendsLine c.gen_if_some.new.into c.close.new.self
+      (λ tables. Emit c.args.table c.in_ok-count.count b) 1 c.args.place Nothing)
       (c.is_some.ensures ∙ some_mapped node_of c.args.weight.now) h))) c.close.ensures.made;
 }

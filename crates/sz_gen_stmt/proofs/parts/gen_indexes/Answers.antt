@@ -10,7 +10,8 @@ use Rattle.sz_gen_stmt.proofs.parts.gen_indexes.Goals as goal
 pub loop-step-preserved : goal.loop-step-preserved
 loop-step-preserved c = λ new h.
     c.loop-step.invariant new (subst (AppendsIndexes c.loop-step.into new)
-    (sym (rest_more step_of c.args.path.now c.loop-step.step-index c.step-item.result c.loop-step-test.true c.step-item.is
+    (sym
+    (rest_more step_of c.args.path.now c.loop-step.step-index c.step-item.result c.loop-step-test.true c.step-item.is
     ∙ ap (λ (x : CoreStep). step_of x ∷ map step_of (drop (c.loop-step.step-index + 1) c.args.path.now)) c.in-Index.is))
     (after c.in_ok-gen_expr.ensures.made h))
 
@@ -18,8 +19,10 @@ loop-step-preserved c = λ new h.
 pub loop-step-preserved-in_default : goal.loop-step-preserved-in_default
 loop-step-preserved-in_default c = λ new h.
     c.loop-step.invariant new (subst (AppendsIndexes c.loop-step.into new)
-    (sym (rest_more step_of c.args.path.now c.loop-step.step-index c.step-item.result c.loop-step-test.true c.step-item.is
-    ∙ ap (λ (x : CoreStep). step_of x ∷ map step_of (drop (c.loop-step.step-index + 1) c.args.path.now)) c.in_default.is)) h)
+    (sym
+    (rest_more step_of c.args.path.now c.loop-step.step-index c.step-item.result c.loop-step-test.true c.step-item.is
+    ∙ ap (λ (x : CoreStep). step_of x ∷ map step_of (drop (c.loop-step.step-index + 1) c.args.path.now))
+    c.in_default.is)) h)
 
 pub returns : goal.returns
 returns c = record {

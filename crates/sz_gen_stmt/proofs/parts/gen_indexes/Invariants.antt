@@ -7,4 +7,5 @@ use Rattle.sz_gen_stmt.proofs.parts.gen_indexes.Given as goal
 
 abbrev pub invariant-loop-step : goal.invariant-loop-step
 invariant-loop-step l =
-    (new : Builder) → AppendsIndexes l.into new (map step_of (drop l.step-index l.path)) → AppendsIndexes l.fn.into new (map step_of l.path)
+    (new : Builder) → AppendsIndexes l.into new (map step_of (drop l.step-index l.path))
+    → AppendsIndexes l.fn.into new (map step_of l.path)

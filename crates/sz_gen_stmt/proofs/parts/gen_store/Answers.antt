@@ -11,8 +11,10 @@ pub returns : goal.returns
 returns c =
     let e = node_of c.args.value.now in
     record {
-      made = on_ok_weaker c.gen_closed.result (λ h. closed_after e (Store c.args.n (map bare_step (map step_of c.args.path.now))) c.args.place
+      made = on_ok_weaker c.gen_closed.result
+          (λ h. closed_after e (Store c.args.n (map bare_step (map step_of c.args.path.now))) c.args.place
           c.in_ok-gen_indexes.ensures.made
-          (subst (λ steps. AppendsClosed c.gen_indexes.new.into c.gen_closed.new.into e (Store c.args.n steps) c.args.place)
+          (subst
+          (λ steps. AppendsClosed c.gen_indexes.new.into c.gen_closed.new.into e (Store c.args.n steps) c.args.place)
           c.in_ok-steps.ensures.value h)) c.gen_closed.ensures.made;
     }

@@ -5,4 +5,5 @@ use Rattle.sz_core.specs.View.{item_of}
 use Rattle.sz_gen_stmt.proofs.program.copied_tables.Given as goal
 
 abbrev pub invariant-loop-item : goal.invariant-loop-item
-invariant-loop-item l = l.tables ++ tables_of (map item_of (drop l.item-index l.items)) ≡ tables_of (map item_of l.items)
+invariant-loop-item l =
+    l.tables ++ tables_of (map item_of (drop l.item-index l.items)) ≡ tables_of (map item_of l.items)

@@ -10,5 +10,6 @@ use Rattle.sz_gen_stmt.proofs.program.gen_statements.Given as goal
 
 abbrev pub invariant-loop-item : goal.invariant-loop-item
 invariant-loop-item l =
-    (new : Builder) → AppendsStms l.into new (stms_of (statements_of (map item_of (drop l.item-index l.items)))) no_exits
+    (new : Builder)
+    → AppendsStms l.into new (stms_of (statements_of (map item_of (drop l.item-index l.items)))) no_exits
     → AppendsStms l.fn.into new (stms_of (statements_of (map item_of l.items))) no_exits

@@ -8,5 +8,6 @@ use Rattle.sz_gen_stmt.proofs.program.gen_statics.Given as goal
 
 abbrev pub invariant-loop-item : goal.invariant-loop-item
 invariant-loop-item l =
-    (new : Builder) → ExtendsStatics l.into new (length l.into.statics) (statics_of (map item_of (drop l.item-index l.items)))
+    (new : Builder)
+    → ExtendsStatics l.into new (length l.into.statics) (statics_of (map item_of (drop l.item-index l.items)))
     → ExtendsStatics l.fn.into new (length l.fn.into.statics) (statics_of (map item_of l.items))

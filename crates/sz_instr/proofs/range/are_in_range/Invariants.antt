@@ -6,4 +6,5 @@ use Rattle.sz_instr.proofs.range.are_in_range.Given as goal
 
 abbrev pub invariant-loop-line : goal.invariant-loop-line
 invariant-loop-line l =
-    let all = λ (lines : _). list_all (λ line. is_in_range l.code line.instr) lines in all (drop l.line-index l.lines) ≡ all l.lines
+    let all = λ (lines : _). list_all (λ line. is_in_range l.code line.instr) lines in
+    all (drop l.line-index l.lines) ≡ all l.lines

@@ -10,7 +10,8 @@ invariant-loop-filled g l = record {
   in_range : l.filled ≤ length l.bytes.items;
   at_most : length l.bytes.items ≤ l.limit + 1;
   read : Consumes (g.F.Files.left l.fn.files l.file) (g.F.Files.left l.files l.file) (take l.filled l.bytes.items);
-  kept : KeepsOtherFiles g.F.Files.held g.F.Files.left g.F.Files.given g.F.Files.names g.F.Files.faults l.file l.fn.files l.files;
+  kept : KeepsOtherFiles
+      g.F.Files.held g.F.Files.left g.F.Files.given g.F.Files.names g.F.Files.faults l.file l.fn.files l.files;
 }
 
 abbrev pub decreases-loop-filled : goal.decreases-loop-filled

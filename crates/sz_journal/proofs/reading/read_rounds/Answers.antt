@@ -1,6 +1,6 @@
 -- A further round was read, and nothing written.
 use Rattle.std.proofs.Common.{List, ℕ, IfSome, ◌≡◌, length, sym, subst}
-use Rattle.sz_gates.proofs.ForCallers.{falls_not_both}
+use Rattle.sz_disk.proofs.GateForCallers.{falls_not_both}
 use Rattle.sz_journal.proofs.LeftLemmas.{nothing_both}
 use Rattle.sz_journal.proofs.ReadLemmas.{at_still, turn_goes}
 use Rattle.sz_journal.proofs.reading.read_rounds.Goals as goal
@@ -10,14 +10,17 @@ loop-journal-preserved g c =
     let bytes = g.K.Disk.bytes c.loop-journal.disk in
     let same = c.read_next.ensures.kept.same in
     let read =
-    turn_goes c.args.job.now c.args.decls.now bytes c.args.count c.loop-journal.journal c.read_next.new.journal c.in_ok-read_next.field-0
+    turn_goes c.args.job.now c.args.decls.now bytes
+    c.args.count c.loop-journal.journal c.read_next.new.journal c.in_ok-read_next.field-0
     c.in_ok-read_next.ensures.value c.if-branch.true in
     record {
-      all = subst (λ b. IfSome b (λ (held : List ℕ). c.args.count ≡ length held)) (sym same) c.loop-journal.invariant.all;
-      at = at_still c.args.job.now c.args.decls.now bytes c.args.count c.read_next.new.journal (g.K.Disk.bytes c.read_next.new.disk) same read.0;
+      all = subst (λ b. IfSome b (λ (held : List ℕ). c.args.count ≡ length held))
+          (sym same) c.loop-journal.invariant.all;
+      at = at_still c.args.job.now c.args.decls.now bytes c.args.count c.read_next.new.journal
+          (g.K.Disk.bytes c.read_next.new.disk) same read.0;
       kept = nothing_both c.loop-journal.invariant.kept c.read_next.ensures.kept;
-      faults = falls_not_both (g.K.Disk.faults c.args.disk.now) (g.K.Disk.faults c.loop-journal.disk) (g.K.Disk.faults c.read_next.new.disk)
-          c.loop-journal.invariant.faults c.read_next.ensures.faults;
+      faults = falls_not_both (g.K.Disk.faults c.args.disk.now) (g.K.Disk.faults c.loop-journal.disk)
+          (g.K.Disk.faults c.read_next.new.disk) c.loop-journal.invariant.faults c.read_next.ensures.faults;
     }
 
 pub returns-in_err-read_next-clause-kept : goal.returns-in_err-read_next-clause-kept

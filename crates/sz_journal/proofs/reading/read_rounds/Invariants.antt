@@ -1,6 +1,6 @@
 -- Which rounds were read so far.
 use Rattle.std.proofs.Common.{◌≡◌, ◌-◌, length, IfSome, List, ℕ}
-use Rattle.sz_gates.specs.Crashing.{DoesNotFall, WritesNothing}
+use Rattle.sz_disk.specs.Crashing.{DoesNotFall, WritesNothing}
 use Rattle.sz_journal.specs.Journal.{end_gate}
 use Rattle.sz_journal.specs.Reading.{IsAt}
 use Rattle.sz_journal.proofs.reading.read_rounds.Given as goal

@@ -1,7 +1,7 @@
 -- Bytes that are those of no round, or of one that may not be the next one, aren't those of the next one.
 use Rattle.std.proofs.Common.{◌∙◌, ◌<◌, ◌^◌, ◌∷◌, ◌++◌, [], List, Err, true≢false, sym, ap, subst, rules}
-use Rattle.sz_journal_format.specs.Rounds.{AreRounds}
-use Rattle.sz_journal_format.specs.declared.round.RoundEntry.{RoundEntry}
+use Rattle.sz_journal.specs.Rounds.{AreRounds}
+use Rattle.sz_journal.specs.declared.round.RoundEntry.{RoundEntry}
 use Rattle.sz_journal.specs.Journal.{rounds_of}
 use Rattle.sz_journal.proofs.RoundLemmas.{none_next, other_next}
 use Rattle.sz_journal.proofs.reading.take_round.Goals as goal
@@ -12,13 +12,10 @@ returns-then-not-may_be_next c =
     record {
       value = (
         c.end-gate.ensures.value,
-        other_next c.args.job.now c.args.decls.now (rounds_of c.args.journal.now) c.args.entry.now c.in-Ok.round few c.in-Ok.ensures.value
-            (λ are.
-            true≢false
-            (sym
-            (c.may_be_next.ensures.value.1
-            (subst (λ (rs : List RoundEntry). AreRounds c.args.job.now c.args.decls.now (rs ++ c.in-Ok.round ∷ [])) (sym c.rounds.ensures.value) are))
-            ∙ c.if-not-may_be_next.true)),
+        other_next c.args.job.now c.args.decls.now (rounds_of c.args.journal.now) c.args.entry.now c.in-Ok.round few
+            c.in-Ok.ensures.value (λ are. true≢false (sym (c.may_be_next.ensures.value.1
+            (subst (λ (rs : List RoundEntry). AreRounds c.args.job.now c.args.decls.now (rs ++ c.in-Ok.round ∷ []))
+            (sym c.rounds.ensures.value) are)) ∙ c.if-not-may_be_next.true)),
       );
     }
 

@@ -4,4 +4,5 @@ use Rattle.sz_ledger_tests.proofs.SmallPlans as plans
 use Rattle.sz_ledger_tests.proofs.plans.one_ticket.Goals as goal
 
 pub new-requires : goal.new-requires
-new-requires c = subst (λ (l : List ℕ). IsPlan record { shards = 1; attempts = 2; tickets = l }) (sym c.in_ok-tickets.ensures.value) plans.one_ticket
+new-requires c = subst (λ (l : List ℕ). IsPlan record { shards = 1; attempts = 2; tickets = l })
+    (sym c.in_ok-tickets.ensures.value) plans.one_ticket

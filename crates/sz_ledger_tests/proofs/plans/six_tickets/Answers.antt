@@ -4,4 +4,5 @@ use Rattle.sz_ledger_tests.proofs.SmallPlans as plans
 use Rattle.sz_ledger_tests.proofs.plans.six_tickets.Goals as goal
 
 pub new-requires : goal.new-requires
-new-requires c = subst (λ (l : List ℕ). IsPlan record { shards = 4; attempts = 2; tickets = l }) (sym c.in_ok-tickets.ensures.value) plans.six_tickets
+new-requires c = subst (λ (l : List ℕ). IsPlan record { shards = 4; attempts = 2; tickets = l })
+    (sym c.in_ok-tickets.ensures.value) plans.six_tickets

@@ -10,7 +10,8 @@ returns-in_err-code c = c.from_residual.ensures ∙ ap (option_and_then characte
 
 pub overflow_cast-code : goal.overflow_cast-code
 overflow_cast-code c =
-    let most : c.in_ok-code.code < 65536 = four_digits c.args.digits.now c.in_ok-code.code c.requires (sym (c.in_ok-code.ensures
+    let most : c.in_ok-code.code < 65536 =
+    four_digits c.args.digits.now c.in_ok-code.code c.requires (sym (c.in_ok-code.ensures
     ∙ four_fit c.args.digits.now c.requires)) in
     omega (arith, most)
 
@@ -18,5 +19,6 @@ pub returns-in_err-from_u32 : goal.returns-in_err-from_u32
 returns-in_err-from_u32 c =
     let is = c.in_ok-code.ensures ∙ four_fit c.args.digits.now c.requires in
     c.from_residual-in_err-from_u32.ensures
-    ∙ sym (no_character c.in_ok-code.code c.in_err-from_u32.ensures.cases (four_digits c.args.digits.now c.in_ok-code.code c.requires (sym is)))
+    ∙ sym (no_character c.in_ok-code.code c.in_err-from_u32.ensures.cases
+    (four_digits c.args.digits.now c.in_ok-code.code c.requires (sym is)))
     ∙ ap (option_and_then character_escape) is

@@ -13,8 +13,8 @@ returns-then-text-mark-ne92-clause-value c = newline_ends c.args.quoted c.args.t
 
 pub returns-in_err-escape-clause-value : goal.returns-in_err-escape-clause-value
 returns-in_err-escape-clause-value c = c.from_residual.ensures
-    ∙ escape_ends c.args.quoted c.args.text.now c.loop-plain.at c.in-Some.plain c.loop-plain.invariant.len c.in-Some.ensures
-    c.if-text-mark-ne92.false c.in_err-escape.ensures.value
+    ∙ escape_ends c.args.quoted c.args.text.now c.loop-plain.at c.in-Some.plain c.loop-plain.invariant.len
+    c.in-Some.ensures c.if-text-mark-ne92.false c.in_err-escape.ensures.value
 
 pub loop-plain-preserved : goal.loop-plain-preserved
 loop-plain-preserved c =
@@ -25,8 +25,10 @@ loop-plain-preserved c =
     let after_escape : c.in_ok-escape.escape ≤ length text - (mark + 1) =
     omega (arith, c.in_ok-escape.ensures.within, ap length (take_rest text (mark + 1)), length-drop (mark + 1) text) in
     let found : c.in-Some.plain < length text - c.loop-plain.at =
-    omega (arith, c.in-Some.ensures.0.high, ap length (take_rest text c.loop-plain.at), length-drop c.loop-plain.at text) in
+    omega
+    (arith, c.in-Some.ensures.0.high, ap length (take_rest text c.loop-plain.at), length-drop c.loop-plain.at text) in
     record { within = omega (arith, after_escape, found); len = rest }
 
 pub returns-clause-value : goal.returns-clause-value
-returns-clause-value c = nothing_ends c.args.quoted c.args.text.now c.loop-plain.at c.loop-plain.invariant.len c.in_default.ensures
+returns-clause-value c =
+    nothing_ends c.args.quoted c.args.text.now c.loop-plain.at c.loop-plain.invariant.len c.in_default.ensures

@@ -13,8 +13,8 @@ returns-then-mark-body c =
     let value = c.loop-plain.value.items in
     ap (λ (v : List ℕ). Some v) (c.in_ok-extend_from_slice.ensures.items
     ∙ ap (λ (t : List ℕ). value ++ t) (run_is text c.loop-plain.at c.in-Some.plain))
-    ∙ closes_whole c.args.quoted text c.loop-plain.at c.in-Some.plain value c.loop-plain.invariant.decoded c.in-Some.ensures
-    c.if-body-mark-eq34.true c.if-mark-body.true
+    ∙ closes_whole c.args.quoted text c.loop-plain.at c.in-Some.plain value
+    c.loop-plain.invariant.decoded c.in-Some.ensures c.if-body-mark-eq34.true c.if-mark-body.true
 
 -- A quote before the last byte, or a newline.
 pub returns-then-body-mark-ne92 : goal.returns-then-body-mark-ne92
@@ -25,13 +25,16 @@ returns-then-body-mark-ne92 c =
       | else-body-mark-eq34-via-then-body-mark-eq34+else-mark-body w ↦ λ is len. w.if-mark-body.false len
       | else-body-mark-eq34-via-else-body-mark-eq34 w ↦ λ is len. w.if-body-mark-eq34.false is
     ] in
-    closes_early c.args.quoted text c.loop-plain.at c.in-Some.plain c.loop-plain.value.items c.loop-plain.invariant.decoded
+    closes_early c.args.quoted text
+    c.loop-plain.at c.in-Some.plain c.loop-plain.value.items c.loop-plain.invariant.decoded
     c.in-Some.ensures early c.if-body-mark-ne92.true
 
 pub returns-in_default-escape_in : goal.returns-in_default-escape_in
 returns-in_default-escape_in c =
-    ap (whole_value (length c.args.body.now)) (sym (escape_closes c.args.quoted c.args.body.now c.loop-plain.at c.in-Some.plain
-    c.loop-plain.value.items c.loop-plain.invariant.decoded c.in-Some.ensures c.if-body-mark-ne92.false c.in_default-escape_in.ensures.value))
+    ap (whole_value (length c.args.body.now))
+    (sym (escape_closes c.args.quoted c.args.body.now c.loop-plain.at c.in-Some.plain
+    c.loop-plain.value.items c.loop-plain.invariant.decoded c.in-Some.ensures c.if-body-mark-ne92.false
+    c.in_default-escape_in.ensures.value))
 
 -- The escape's value stands after that of the bytes before it.
 pub loop-plain-preserved : goal.loop-plain-preserved
@@ -40,21 +43,32 @@ loop-plain-preserved c =
     let mark = c.loop-plain.at + c.in-Some.plain in
     let value = c.loop-plain.value.items in
     let later = take (length text - (mark + 1)) (drop (mark + 1) text) in
-    let size : c.escape_size-size.result ≡ escape_size (first later) = c.escape_size-size.ensures ∙ ap escape_size (first_is later) in
+    let size : c.escape_size-size.result ≡ escape_size (first later) =
+    c.escape_size-size.ensures ∙ ap escape_size (first_is later) in
     let decoded = escape_decodes c.args.quoted text c.loop-plain.at c.in-Some.plain c.escape_size-size.result value
     (escape_value c.in-Some-escape_in.escape) c.loop-plain.invariant.decoded c.in-Some.ensures c.if-body-mark-ne92.false
     c.in-Some-escape_in.ensures.value size in
-    let items : value ++ take c.in-Some.plain (drop c.loop-plain.at text) ++ escape_value c.in-Some-escape_in.escape ≡ c.push_escape.new.value.items =
-    ap (λ (t : List ℕ). value ++ t ++ escape_value c.in-Some-escape_in.escape) (sym (run_is text c.loop-plain.at c.in-Some.plain))
+    let items : value ++ take c.in-Some.plain (drop c.loop-plain.at text) ++ escape_value c.in-Some-escape_in.escape
+    ≡ c.push_escape.new.value.items =
+    ap (λ (t : List ℕ). value ++ t ++ escape_value c.in-Some-escape_in.escape)
+    (sym (run_is text c.loop-plain.at c.in-Some.plain))
     ∙ ap (λ (t : List ℕ). t ++ escape_value c.in-Some-escape_in.escape) (sym c.in_ok-extend_from_slice.ensures.items)
     ∙ sym c.in_ok-push_escape.ensures in
     let within : c.escape_size-size.result ≤ length text - (mark + 1) =
-    omega (arith, size, c.in-Some-escape_in.ensures.within, ap length (take_rest text (mark + 1)), length-drop (mark + 1) text) in
+    omega (
+      arith,
+      size,
+      c.in-Some-escape_in.ensures.within,
+      ap length (take_rest text (mark + 1)),
+      length-drop (mark + 1) text,
+    ) in
     let found : c.in-Some.plain < length text - c.loop-plain.at =
-    omega (arith, c.in-Some.ensures.0.high, ap length (take_rest text c.loop-plain.at), length-drop c.loop-plain.at text) in
+    omega
+    (arith, c.in-Some.ensures.0.high, ap length (take_rest text c.loop-plain.at), length-drop c.loop-plain.at text) in
     record {
       within = omega (arith, within, found);
-      decoded = subst (λ (v : List ℕ). IsDecoded c.args.quoted text (mark + 1 + c.escape_size-size.result) v) items decoded;
+      decoded =
+          subst (λ (v : List ℕ). IsDecoded c.args.quoted text (mark + 1 + c.escape_size-size.result) v) items decoded;
     }
 
 pub returns : goal.returns

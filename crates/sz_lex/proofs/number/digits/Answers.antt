@@ -21,7 +21,8 @@ pub loop-byte-preserved : goal.loop-byte-preserved
 loop-byte-preserved c =
     let byte = get_or c.args.run.now c.loop-byte.byte-index 0 in
     let rest = drop (c.loop-byte.byte-index + 1) c.args.run.now in
-    let p = pushed c.args.base c.loop-byte.number byte c.in_ok-number.number rest (sym c.push_digit.ensures ∙ c.in_ok-number.was) in
+    let p = pushed c.args.base c.loop-byte.number byte c.in_ok-number.number rest
+    (sym c.push_digit.ensures ∙ c.in_ok-number.was) in
     record {
       number = ap (below (2 ^ 64)) (sym p.more)
           ∙ sym (at_drop_more (λ (t : List ℕ). below (2 ^ 64)

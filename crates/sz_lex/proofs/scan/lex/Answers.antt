@@ -5,14 +5,17 @@ use Rattle.sz_lex.proofs.AnswerLemmas.{found_tokens, only_tokens, refused, only_
 use Rattle.sz_lex.proofs.scan.lex.Goals as goal
 
 pub returns-in-Ok-clause-found : goal.returns-in-Ok-clause-found
-returns-in-Ok-clause-found c = found_tokens (λ (t : Lexed). t.tokens) c.args.text.now c.tokens_of.result c.in-Ok.ensures.cases.1
+returns-in-Ok-clause-found c =
+    found_tokens (λ (t : Lexed). t.tokens) c.args.text.now c.tokens_of.result c.in-Ok.ensures.cases.1
     c.tokens_of.ensures.read
 
 pub returns-in-Ok-clause-only_found : goal.returns-in-Ok-clause-only_found
-returns-in-Ok-clause-only_found c = only_tokens (λ (t : Lexed). t.tokens) c.args.text.now c.tokens_of.result c.tokens_of.ensures.read
+returns-in-Ok-clause-only_found c =
+    only_tokens (λ (t : Lexed). t.tokens) c.args.text.now c.tokens_of.result c.tokens_of.ensures.read
 
 pub returns-in-Ok-clause-refused : goal.returns-in-Ok-clause-refused
-returns-in-Ok-clause-refused c = refused (λ (t : Lexed). t.tokens) c.args.text.now c.tokens_of.result c.in-Ok.ensures.cases.1 c.tokens_of.ensures.read
+returns-in-Ok-clause-refused c = refused (λ (t : Lexed). t.tokens)
+    c.args.text.now c.tokens_of.result c.in-Ok.ensures.cases.1 c.tokens_of.ensures.read
 
 pub returns-in-Ok-clause-only_refused : goal.returns-in-Ok-clause-only_refused
 returns-in-Ok-clause-only_refused c = only_refused (λ (t : Lexed). t.tokens) c.args.text.now c.tokens_of.result

@@ -8,5 +8,7 @@ use Rattle.sz_machine_cells.proofs.maps.last_ones.Goals as goal
 pub loop-i-preserved-then-is_followed : goal.loop-i-preserved-then-is_followed
 loop-i-preserved-then-is_followed c =
     let inside : c.loop-i.i < length c.args.pairs.now = search rules in
-    let followed : is_followed (seen_pair_views (drop c.loop-i.i c.args.pairs.now)) ≡ true = search (rules, take_rest) in
-    goes_ahead c.args.pairs.now c.loop-i.i c.loop-i.kept.items (last_ones (seen_pair_views c.args.pairs.now)) inside c.loop-i.invariant followed
+    let followed : is_followed (seen_pair_views (drop c.loop-i.i c.args.pairs.now)) ≡ true =
+    search (rules, take_rest) in
+    goes_ahead c.args.pairs.now c.loop-i.i c.loop-i.kept.items (last_ones (seen_pair_views c.args.pairs.now)) inside
+    c.loop-i.invariant followed

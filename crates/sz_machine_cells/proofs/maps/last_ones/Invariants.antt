@@ -4,4 +4,5 @@ use Rattle.sz_machine_cells.specs.PairViews.{seen_pair_views, last_ones}
 use Rattle.sz_machine_cells.proofs.maps.last_ones.Given as goal
 
 abbrev pub invariant-loop-i : goal.invariant-loop-i
-invariant-loop-i l = seen_pair_views l.kept.items ++ last_ones (seen_pair_views (drop l.i l.pairs)) ≡ last_ones (seen_pair_views l.pairs)
+invariant-loop-i l = seen_pair_views l.kept.items ++ last_ones (seen_pair_views (drop l.i l.pairs))
+    ≡ last_ones (seen_pair_views l.pairs)

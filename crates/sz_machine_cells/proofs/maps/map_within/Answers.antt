@@ -21,12 +21,14 @@ pub returns-then-not-is_within-clause-none : goal.returns-then-not-is_within-cla
 returns-then-not-is_within-clause-none c =
     let all : list_all is_some c.args.cells.now ≡ true = search rules in
     let pairs = seen_pair_views c.in_ok-pairs.pairs.items in
-    let whole = map_is c.args.cells.now pairs c.in_ok-pairs.ensures.rest all (c.in_ok-pairs.ensures.value ∙ ap (with_pairs []) c.in_ok-pair_views.ensures.value) in
+    let whole = map_is c.args.cells.now pairs c.in_ok-pairs.ensures.rest all
+    (c.in_ok-pairs.ensures.value ∙ ap (with_pairs []) c.in_ok-pair_views.ensures.value) in
     let sorted : c.deref.result.now ≡ c.in_ok-pairs.pairs.items = search rules in
     let kept = c.in_ok-kept.ensures.value ∙ ap (λ l. last_ones (seen_pair_views l)) sorted in
     let stands : c.deref-2.result.now ≡ c.in_ok-kept.kept.items = search rules in
     let same = ap (λ l. Some (mapping (entries_of l))) (ap seen_pair_views stands ∙ kept) ∙ whole in
-    let passes : nat_le (weight_of (mapping (entries_of (seen_pair_views c.deref-2.result.now)))) c.args.most ≡ false = search rules in
+    let passes : nat_le (weight_of (mapping (entries_of (seen_pair_views c.deref-2.result.now)))) c.args.most
+    ≡ false = search rules in
     subst (λ x. c.args.most < result_weight x) same (leb-false _ _ passes)
 
 pub copied-requires : goal.copied-requires
@@ -34,19 +36,24 @@ copied-requires c =
     let sorted : c.deref.result.now ≡ c.in_ok-pairs.pairs.items = search rules in
     let kept = c.in_ok-kept.ensures.value ∙ ap (λ l. last_ones (seen_pair_views l)) sorted in
     let again : c.deref-3.result.now ≡ c.in_ok-kept.kept.items = search rules in
-    record { rising = subst KeysRise (sym (ap seen_pair_views again ∙ kept)) (last_rise (seen_pair_views c.in_ok-pairs.pairs.items) c.in_ok-pairs.ensures.rest) }
+    record {
+      rising = subst KeysRise (sym (ap seen_pair_views again ∙ kept))
+          (last_rise (seen_pair_views c.in_ok-pairs.pairs.items) c.in_ok-pairs.ensures.rest);
+    }
 
 pub returns-clause-some : goal.returns-clause-some
 returns-clause-some c =
     let all : list_all is_some c.args.cells.now ≡ true = search rules in
     let pairs = seen_pair_views c.in_ok-pairs.pairs.items in
-    let whole = map_is c.args.cells.now pairs c.in_ok-pairs.ensures.rest all (c.in_ok-pairs.ensures.value ∙ ap (with_pairs []) c.in_ok-pair_views.ensures.value) in
+    let whole = map_is c.args.cells.now pairs c.in_ok-pairs.ensures.rest all
+    (c.in_ok-pairs.ensures.value ∙ ap (with_pairs []) c.in_ok-pair_views.ensures.value) in
     let sorted : c.deref.result.now ≡ c.in_ok-pairs.pairs.items = search rules in
     let kept = c.in_ok-kept.ensures.value ∙ ap (λ l. last_ones (seen_pair_views l)) sorted in
     let stands : c.deref-2.result.now ≡ c.in_ok-kept.kept.items = search rules in
     let again : c.deref-3.result.now ≡ c.in_ok-kept.kept.items = search rules in
     let same = ap (λ l. Some (mapping (entries_of l))) (ap seen_pair_views stands ∙ kept) ∙ whole in
-    let fits : nat_le (weight_of (mapping (entries_of (seen_pair_views c.deref-2.result.now)))) c.args.most ≡ true = search rules in
+    let fits : nat_le (weight_of (mapping (entries_of (seen_pair_views c.deref-2.result.now)))) c.args.most ≡ true =
+    search rules in
     let copies = c.in_ok-copied.ensures.value ∙ ap seen_pair_views again ∙ kept in (
       c.in_ok-of_value.ensures.value ∙ ap (λ l. Some (mapping (entries_of l))) copies ∙ whole,
       subst (λ x. result_weight x ≤ c.args.most) same (leb-true _ _ fits),

@@ -29,18 +29,27 @@ loop-cell-preserved c =
     elim c.match-take.branch [
       | in-Some-take+in_ok-push-in-Some-take w ↦
           let key : c.loop-cell.waiting ≡ Some w.in-Some-take.key = search (rules, w.in-Some-take.is) in
-          let before = subst (λ v. ArePaired (defined_of (take i xs)) (seen_pair_views before_pairs) (option_map seen_view v)) key c.loop-cell.invariant in
-          let made = one_longer xs i (Some (seen_view view)) inside here _ None (pair_made (take i xs) before_pairs w.in-Some-take.key view before) in
-          let pairs : c.match-take.pairs.items ≡ before_pairs ++ record { key = w.in-Some-take.key; value = view } ∷ [] = search (rules, w.pairs-is) in
+          let before = subst (λ v. ArePaired (defined_of (take i xs)) (seen_pair_views before_pairs)
+          (option_map seen_view v)) key c.loop-cell.invariant in
+          let made = one_longer xs i (Some (seen_view view)) inside here _ None
+          (pair_made (take i xs) before_pairs w.in-Some-take.key view before) in
+          let pairs : c.match-take.pairs.items ≡ before_pairs ++ record { key = w.in-Some-take.key; value = view }
+          ∷ [] = search (rules, w.pairs-is) in
           let left : c.match-take.waiting ≡ None = search (rules, w.waiting-is) in
-          subst (λ ps. ArePaired (defined_of (take (i + 1) xs)) (seen_pair_views ps) (option_map seen_view c.match-take.waiting)) (sym pairs)
-          (subst (λ v. ArePaired (defined_of (take (i + 1) xs)) (seen_pair_views (before_pairs ++ record { key = w.in-Some-take.key; value = view } ∷ [])) (option_map seen_view v)) (sym left) made)
+          subst (λ ps. ArePaired (defined_of (take (i + 1) xs)) (seen_pair_views ps)
+          (option_map seen_view c.match-take.waiting)) (sym pairs)
+          (subst (λ v. ArePaired (defined_of (take (i + 1) xs)) (seen_pair_views (before_pairs
+          ++ record { key = w.in-Some-take.key; value = view } ∷ [])) (option_map seen_view v)) (sym left) made)
       | in-None w ↦
           let empty : c.loop-cell.waiting ≡ None = search (rules, w.in-None.is) in
-          let before = subst (λ v. ArePaired (defined_of (take i xs)) (seen_pair_views before_pairs) (option_map seen_view v)) empty c.loop-cell.invariant in
-          let made = one_longer xs i (Some (seen_view view)) inside here _ (Some (seen_view view)) (key_waits (take i xs) before_pairs view before) in
+          let before = subst (λ v. ArePaired (defined_of (take i xs)) (seen_pair_views before_pairs)
+          (option_map seen_view v)) empty c.loop-cell.invariant in
+          let made = one_longer xs i (Some (seen_view view)) inside here _ (Some (seen_view view))
+          (key_waits (take i xs) before_pairs view before) in
           let pairs : c.match-take.pairs.items ≡ before_pairs = search (rules, w.pairs-is) in
           let waits : c.match-take.waiting ≡ Some view = search (rules, w.waiting-is) in
-          subst (λ ps. ArePaired (defined_of (take (i + 1) xs)) (seen_pair_views ps) (option_map seen_view c.match-take.waiting)) (sym pairs)
-          (subst (λ v. ArePaired (defined_of (take (i + 1) xs)) (seen_pair_views before_pairs) (option_map seen_view v)) (sym waits) made)
+          subst (λ ps. ArePaired (defined_of (take (i + 1) xs)) (seen_pair_views ps)
+          (option_map seen_view c.match-take.waiting)) (sym pairs)
+          (subst (λ v. ArePaired (defined_of (take (i + 1) xs)) (seen_pair_views before_pairs)
+          (option_map seen_view v)) (sym waits) made)
     ]

@@ -7,4 +7,5 @@ use Rattle.sz_machine_cells.specs.PairViews.{seen_pair_views}
 use Rattle.sz_machine_cells.proofs.maps.pair_views.Given as goal
 
 abbrev pub invariant-loop-cell : goal.invariant-loop-cell
-invariant-loop-cell l = ArePaired (defined_of (take l.cell-index l.cells)) (seen_pair_views l.pairs.items) (option_map seen_view l.waiting)
+invariant-loop-cell l = ArePaired (defined_of (take l.cell-index l.cells)) (seen_pair_views l.pairs.items)
+    (option_map seen_view l.waiting)

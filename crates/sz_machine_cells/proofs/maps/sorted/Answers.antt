@@ -6,6 +6,8 @@ use Rattle.sz_machine_cells.proofs.maps.sorted.Goals as goal
 
 pub returns : goal.returns
 returns c = record {
-  value = sorted_alike _ _ (c.in_ok-sort_by.ensures.stable key_less keys_ordered (always_returns_same _ _ _ (λ a r f called. search rules)));
-  rest = dont_fall _ (c.in_ok-sort_by.ensures.sorted key_less keys_ordered (always_returns_same _ _ _ (λ a r f called. search rules)));
+  value = sorted_alike _ _ (c.in_ok-sort_by.ensures.stable key_less keys_ordered
+      (always_returns_same _ _ _ (λ a r f called. search rules)));
+  rest = dont_fall _ (c.in_ok-sort_by.ensures.sorted key_less keys_ordered
+      (always_returns_same _ _ _ (λ a r f called. search rules)));
 }

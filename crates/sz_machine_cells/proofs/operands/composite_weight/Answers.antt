@@ -14,8 +14,11 @@ returns-then-not-all_defined-clause-some c =
 pub returns-in-Some-clause-some : goal.returns-in-Some-clause-some
 returns-in-Some-clause-some c =
     let all : list_all is_some c.args.cells.now ≡ true = search rules in
-    let sum = c.in-Some.ensures.some in
-    (composite_within c.args.cells.now c.in-Some.weight c.args.most all sum.0 sum.1 (omega (arith, c.ranges.most.fits)), sum.1)
+    let sum = c.in-Some.ensures.some in (
+      composite_within c.args.cells.now c.in-Some.weight c.args.most all sum.0 sum.1
+          (omega (arith, c.ranges.most.fits)),
+      sum.1,
+    )
 
 pub returns-in-None-clause-some : goal.returns-in-None-clause-some
 returns-in-None-clause-some c =

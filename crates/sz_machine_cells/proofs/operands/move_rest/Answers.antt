@@ -15,7 +15,8 @@ loop-i-preserved c =
     let within : from + i < length xs = search (rules, arith) in
     let is : x ≡ get_or ys (from + i) x = search rules in
     record {
-      moved = c.in_ok-push.ensures.items ∙ ap (λ l. l ++ x ∷ []) c.loop-i.invariant.moved ∙ sym (one_moved c.args.to.now.items xs ys from i same x within is);
+      moved = c.in_ok-push.ensures.items ∙ ap (λ l. l ++ x ∷ []) c.loop-i.invariant.moved
+          ∙ sym (one_moved c.args.to.now.items xs ys from i same x within is);
       below = take-set-le from ys (from + i) c.replace.new.dest (omega arith) ∙ c.loop-i.invariant.below;
       above = others_stay c.args.to.now.items xs ys from i same c.replace.new.dest;
       count = length-set ys (from + i) c.replace.new.dest ∙ c.loop-i.invariant.count;

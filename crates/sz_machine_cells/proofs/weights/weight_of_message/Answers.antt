@@ -9,5 +9,6 @@ pub returns-in-Some : goal.returns-in-Some
 returns-in-Some c =
     let same : Some (seen_view c.in-Some.view) ≡ c.args.from.now = search rules in
     record {
-      value = λ fields. subst (λ s. c.weight_of_message_of.result ≡ conversion_weight (proto fields) s c.args.made.now) same (c.weight_of_message_of.ensures.value fields);
+      value = λ fields. subst (λ s. c.weight_of_message_of.result
+          ≡ conversion_weight (proto fields) s c.args.made.now) same (c.weight_of_message_of.ensures.value fields);
     }

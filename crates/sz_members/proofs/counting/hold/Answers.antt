@@ -17,11 +17,13 @@ returns-then-count_again-clause-ok c =
     let old = c.args.tally.now.entries in
     let new = c.count_again.new.tally.entries in
     elim c.then-count_again.branch [
-      | then-count_again-via-then-count_again w ↦ gains_again table (seen c.args.value.now) 1 old new (c.count_again.ensures.found w.if-count_again.true)
+      | then-count_again-via-then-count_again w ↦
+          gains_again table (seen c.args.value.now) 1 old new (c.count_again.ensures.found w.if-count_again.true)
       | then-count_again-via-else-count_again+then-is_full w ↦
           (let same = c.count_again.ensures.kept w.if-count_again.false in
           let unique = subst (λ es. IsDistinct value_eq (keys_of es)) same w.is_full.ensures.unique in
-          let full : is_full table (length old) ≡ true = ap (λ es. is_full table (length es)) (sym same) ∙ sym w.is_full.ensures.value ∙ w.if-is_full.true in
+          let full : is_full table (length old) ≡ true =
+          ap (λ es. is_full table (length es)) (sym same) ∙ sym w.is_full.ensures.value ∙ w.if-is_full.true in
           gains_full table (seen c.args.value.now) 1 old new unique full same)
     ]
 
@@ -30,8 +32,8 @@ keep-requires c =
     let same = c.count_again.ensures.kept c.if-count_again.false in
     let absent = c.count_again.ensures.absent c.if-count_again.false in
     record {
-      absent = absent_alike c.in_ok-value.value c.args.value.now c.count_again.new.tally.entries c.in_ok-value.ensures.value
-          (ap (lookup (value_eq c.args.value.now)) same ∙ absent);
+      absent = absent_alike c.in_ok-value.value c.args.value.now c.count_again.new.tally.entries
+          c.in_ok-value.ensures.value (ap (lookup (value_eq c.args.value.now)) same ∙ absent);
     }
 
 pub returns-clause-ok : goal.returns-clause-ok
@@ -40,8 +42,9 @@ returns-clause-ok c =
     let old = c.args.tally.now.entries in
     let copied = c.in_ok-value.value in
     let same = c.count_again.ensures.kept c.if-count_again.false in
-    let few : is_full table (length old) ≡ false = ap (λ es. is_full table (length es)) (sym same) ∙ sym c.is_full.ensures.value ∙ c.if-is_full.false in
+    let few : is_full table (length old) ≡ false =
+    ap (λ es. is_full table (length es)) (sym same) ∙ sym c.is_full.ensures.value ∙ c.if-is_full.false in
     on_ok_weaker c.keep.result
     (λ kept. subst (λ d. Gains table d 1 old c.keep.new.tally.entries) c.in_ok-value.ensures.value
-    (gains_new table copied 1 old c.keep.new.tally.entries (omega arith) few (kept ∙ ap (λ es. es ++ (copied, 1) ∷ []) same)))
-    c.keep.ensures.ok
+    (gains_new table copied 1 old c.keep.new.tally.entries (omega arith) few
+    (kept ∙ ap (λ es. es ++ (copied, 1) ∷ []) same))) c.keep.ensures.ok

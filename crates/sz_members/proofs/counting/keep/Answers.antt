@@ -5,4 +5,5 @@ use Rattle.sz_members.specs.Repeats.{value_eq}
 use Rattle.sz_members.proofs.counting.keep.Goals as goal
 
 pub returns-clause-ok : goal.returns-clause-ok
-returns-clause-ok c = c.in_ok-insert.ensures.entries ∙ insert_entry-new value_eq c.args.tally.now c.args.value c.args.repeats c.requires.absent
+returns-clause-ok c = c.in_ok-insert.ensures.entries
+    ∙ insert_entry-new value_eq c.args.tally.now c.args.value c.args.repeats c.requires.absent

@@ -18,11 +18,13 @@ returns-then-count_again-clause-value c =
     let new = c.count_again.new.tally.entries in
     elim c.then-count_again.branch [
       | then-count_again-via-then-count_again w ↦
-          gains_again table (seen c.args.value) c.args.repeats old new (c.count_again.ensures.found w.if-count_again.true)
+          gains_again table (seen c.args.value) c.args.repeats old new
+          (c.count_again.ensures.found w.if-count_again.true)
       | then-count_again-via-else-count_again+then-is_full w ↦
           (let same = c.count_again.ensures.kept w.if-count_again.false in
           let unique = subst (λ es. IsDistinct value_eq (keys_of es)) same w.is_full.ensures.unique in
-          let full : is_full table (length old) ≡ true = ap (λ es. is_full table (length es)) (sym same) ∙ sym w.is_full.ensures.value ∙ w.if-is_full.true in
+          let full : is_full table (length old) ≡ true =
+          ap (λ es. is_full table (length es)) (sym same) ∙ sym w.is_full.ensures.value ∙ w.if-is_full.true in
           gains_full table (seen c.args.value) c.args.repeats old new unique full same)
     ]
 
@@ -31,7 +33,8 @@ returns-clause-value c =
     let table = seen_table c.args.table.now in
     let old = c.args.tally.now.entries in
     let same = c.count_again.ensures.kept c.if-count_again.false in
-    let few : is_full table (length old) ≡ false = ap (λ es. is_full table (length es)) (sym same) ∙ sym c.is_full.ensures.value ∙ c.if-is_full.false in
+    let few : is_full table (length old) ≡ false =
+    ap (λ es. is_full table (length es)) (sym same) ∙ sym c.is_full.ensures.value ∙ c.if-is_full.false in
     let room : 0 < spare c.count_again.new.tally = omega (arith, c.requires.room, c.count_again.ensures.spare) in
     let kept = surely c.keep.result (c.keep.ensures.succeeds room) c.keep.ensures.ok in
     gains_new table c.args.value c.args.repeats old c.keep.new.tally.entries c.requires.some few

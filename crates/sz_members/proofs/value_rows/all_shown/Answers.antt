@@ -12,8 +12,11 @@ pub loop-value-preserved : goal.loop-value-preserved
 loop-value-preserved c =
     let es = c.loop-value.value-iterator in
     let rest = c.next.new.self in
-    let step = rest_more deref_pair es rest c.next.result (c.in-Some.value, c.in-Some.repeats) c.in-Some.is c.next.ensures.steps in
+    let step = rest_more deref_pair es rest c.next.result (c.in-Some.value, c.in-Some.repeats)
+    c.in-Some.is c.next.ensures.steps in
     let more = c.in_ok-push_times.ensures.ok
-    ∙ ap (λ n. map seen_ref c.loop-value.made.items ++ replicate n (seen c.in-Some.value.now)) c.times_shown.ensures.value in
+    ∙ ap (λ n. map seen_ref c.loop-value.made.items ++ replicate n (seen c.in-Some.value.now))
+    c.times_shown.ensures.value in
     shown_more c.args.kind (map seen_ref c.loop-value.made.items) (map seen_ref c.push_times.new.made.items)
-    (shown_of c.args.kind (map seen_repeated c.args.tally.now.entries)) c.in-Some.value.now c.in-Some.repeats.now es rest step more c.loop-value.invariant
+    (shown_of c.args.kind (map seen_repeated c.args.tally.now.entries)) c.in-Some.value.now c.in-Some.repeats.now es
+    rest step more c.loop-value.invariant

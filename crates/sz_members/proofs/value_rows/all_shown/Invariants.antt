@@ -6,4 +6,5 @@ use Rattle.sz_members.proofs.value_rows.all_shown.Given as goal
 
 abbrev pub invariant-loop-value : goal.invariant-loop-value
 invariant-loop-value l =
-    map seen_ref l.made.items ++ shown_of l.kind (map seen_repeated l.value-iterator) ≡ shown_of l.kind (map seen_repeated l.tally.entries)
+    map seen_ref l.made.items ++ shown_of l.kind (map seen_repeated l.value-iterator)
+    ≡ shown_of l.kind (map seen_repeated l.tally.entries)

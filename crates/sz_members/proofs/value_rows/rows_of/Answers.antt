@@ -15,8 +15,9 @@ returns-then-is_full c =
     let full = sym c.is_full.ensures.value ∙ c.if-is_full.true in
     let shown = full_shows table es [] c.is_full.ensures.unique c.requires.came full in
     record {
-      value = IfOk-weaker c.overflow_rows.result (λ rows. rows ≡ overflow_row ∷ []) (λ rows. rows ≡ rows_of table (emits_tallied es))
-          (λ rows is. is ∙ sym (ap (rows_of table) (sym (append-nil (emits_tallied es))) ∙ shown)) c.overflow_rows.ensures.value;
+      value = IfOk-weaker c.overflow_rows.result (λ rows. rows ≡ overflow_row ∷ [])
+          (λ rows. rows ≡ rows_of table (emits_tallied es)) (λ rows is. is
+          ∙ sym (ap (rows_of table) (sym (append-nil (emits_tallied es))) ∙ shown)) c.overflow_rows.ensures.value;
     }
 
 pub returns : goal.returns
@@ -26,7 +27,9 @@ returns c =
     let values = c.in_ok-values.values.items in
     let few : is_full table (length es) ≡ false = sym c.is_full.ensures.value ∙ c.if-is_full.false in
     record {
-      value = IfOk-weaker c.row_by_row.result (λ rows. rows ≡ map value_row (map seen_ref values)) (λ rows. rows ≡ rows_of table (emits_tallied es))
-          (λ rows is. is ∙ ap (map value_row) c.in_ok-values.ensures.value ∙ tally_shows table es c.is_full.ensures.unique c.requires.came c.requires.kind few)
+      value = IfOk-weaker c.row_by_row.result (λ rows. rows ≡ map value_row (map seen_ref values))
+          (λ rows. rows ≡ rows_of table (emits_tallied es))
+          (λ rows is. is ∙ ap (map value_row) c.in_ok-values.ensures.value
+          ∙ tally_shows table es c.is_full.ensures.unique c.requires.came c.requires.kind few)
           c.row_by_row.ensures.value;
     }

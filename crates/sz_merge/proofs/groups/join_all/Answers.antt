@@ -12,7 +12,8 @@ joined-requires c =
     let all = c.loop-group.all.saved in
     record {
       can = can_two group.saved all (held_by left)
-          (subst CanBeTogether (held_two left c.loop-group.groups.items group all c.in-Some-pop.ensures.items) c.loop-group.invariant.can);
+          (subst CanBeTogether
+          (held_two left c.loop-group.groups.items group all c.in-Some-pop.ensures.items) c.loop-group.invariant.can);
     }
 
 pub loop-group-preserved : goal.loop-group-preserved
@@ -22,4 +23,5 @@ loop-group-preserved c =
     let all = c.loop-group.all.saved in
     let before = held_by c.pop.new.self.items ++ c.in-Some.last.saved ∷ [] in
     regroups_last before (held_by left) group.saved all c.in_ok-all.all.saved c.in_ok-all.ensures.value
-    (subst (Regroups before) (held_two left c.loop-group.groups.items group all c.in-Some-pop.ensures.items) c.loop-group.invariant)
+    (subst (Regroups before)
+    (held_two left c.loop-group.groups.items group all c.in-Some-pop.ensures.items) c.loop-group.invariant)

@@ -12,7 +12,8 @@ joined-requires c =
     let group = c.loop-last.group.saved in
     record {
       can = can_two last.saved group (held_by left)
-          (subst CanBeTogether (held_two left c.loop-last.groups.items last group c.in-Some.ensures.some) c.loop-last.invariant.can);
+          (subst CanBeTogether
+          (held_two left c.loop-last.groups.items last group c.in-Some.ensures.some) c.loop-last.invariant.can);
     }
 
 pub loop-last-preserved : goal.loop-last-preserved
@@ -22,4 +23,5 @@ loop-last-preserved c =
     let group = c.loop-last.group.saved in
     let before = held_by c.args.groups.items ++ c.args.group.saved ∷ [] in
     regroups_last before (held_by left) last.saved group c.in_ok-group.group.saved c.in_ok-group.ensures.value
-    (subst (Regroups before) (held_two left c.loop-last.groups.items last group c.in-Some.ensures.some) c.loop-last.invariant)
+    (subst (Regroups before)
+    (held_two left c.loop-last.groups.items last group c.in-Some.ensures.some) c.loop-last.invariant)

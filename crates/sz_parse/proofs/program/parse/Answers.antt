@@ -24,7 +24,8 @@ loop-rest-init c =
 
 pub loop-rest-smaller : goal.loop-rest-smaller
 loop-rest-smaller c =
-    (goes (lexeme_of c.args.tokens.now.text) c.args.tokens.now.tokens c.loop-rest.rest.now c.in-Ok.after.now (map stm_of c.loop-rest.statements.items)
+    (goes (lexeme_of c.args.tokens.now.text) c.args.tokens.now.tokens c.loop-rest.rest.now c.in-Ok.after.now
+    (map stm_of c.loop-rest.statements.items)
     (stm_of c.in-Ok.tree) c.loop-rest.invariant.reads c.loop-rest.invariant.low
     (some_alike _ _ _ _ _ c.loop-rest.invariant.agree (rw (← c.text-text.ensures.value) c.in-Ok.ensures.read)).0).fewer
 
@@ -32,9 +33,12 @@ pub loop-rest-preserved : goal.loop-rest-preserved
 loop-rest-preserved c =
     let made : map stm_of c.push.new.self.items ≡ map stm_of c.loop-rest.statements.items ++ stm_of c.in-Ok.tree ∷ [] =
     rw c.in_ok-push-in-Ok.ensures.items (map_push stm_of c.loop-rest.statements.items c.in-Ok.tree) in
-    let r = some_alike (utf8_in c.args.tokens.now.text) (lexeme_of c.args.tokens.now.text) MAX_HEIGHT c.loop-rest.rest.now
-    (stm_of c.in-Ok.tree, c.in-Ok.after.now) c.loop-rest.invariant.agree (rw (← c.text-text.ensures.value) c.in-Ok.ensures.read) in
-    let g = goes (lexeme_of c.args.tokens.now.text) c.args.tokens.now.tokens c.loop-rest.rest.now c.in-Ok.after.now (map stm_of c.loop-rest.statements.items)
+    let r =
+    some_alike (utf8_in c.args.tokens.now.text) (lexeme_of c.args.tokens.now.text) MAX_HEIGHT c.loop-rest.rest.now
+    (stm_of c.in-Ok.tree, c.in-Ok.after.now) c.loop-rest.invariant.agree
+    (rw (← c.text-text.ensures.value) c.in-Ok.ensures.read) in
+    let g = goes (lexeme_of c.args.tokens.now.text) c.args.tokens.now.tokens c.loop-rest.rest.now c.in-Ok.after.now
+    (map stm_of c.loop-rest.statements.items)
     (stm_of c.in-Ok.tree) c.loop-rest.invariant.reads c.loop-rest.invariant.low r.0 in
     record { reads = rw made g.reads; low = rw made g.low; agree = r.1 }
 
@@ -55,7 +59,9 @@ pub returns-clause-found : goal.returns-clause-found
 returns-clause-found c = spelled_all _ _ _ c.loop-rest.invariant.reads c.loop-rest.invariant.low c.in_default.len_below
 
 pub returns-clause-only_found : goal.returns-clause-only_found
-returns-clause-only_found c = λ ss h. one_tree _ _ ss (spelled_all _ _ _ c.loop-rest.invariant.reads c.loop-rest.invariant.low c.in_default.len_below) h
+returns-clause-only_found c = λ ss h.
+    one_tree _ _ ss (spelled_all _ _ _ c.loop-rest.invariant.reads c.loop-rest.invariant.low c.in_default.len_below) h
 
 pub returns-clause-only_refused : goal.returns-clause-only_refused
-returns-clause-only_refused c = λ p h. not_both _ _ p (spelled_all _ _ _ c.loop-rest.invariant.reads c.loop-rest.invariant.low c.in_default.len_below) h
+returns-clause-only_refused c = λ p h.
+    not_both _ _ p (spelled_all _ _ _ c.loop-rest.invariant.reads c.loop-rest.invariant.low c.in_default.len_below) h

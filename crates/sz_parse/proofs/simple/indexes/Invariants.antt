@@ -9,8 +9,9 @@ use Rattle.sz_parse.proofs.simple.indexes.Given as goal
 -- the items so far, and those that are read from here, are all of them
 abbrev pub invariant-loop-after : goal.invariant-loop-after
 invariant-loop-after l =
-    with_items (map tree_of l.items.items) (all_at (index_step (expr_at (utf8_in l.text) l.inner.levels)) l.rest)
-    ≡ all_at (index_step (expr_at (utf8_in l.text) l.inner.levels)) l.fn.tokens
+    with_items (map tree_of l.items.items)
+    (all_at (index_step (expr_at (utf8_in l.reader.text.now) l.reader.depth.levels)) l.rest)
+    ≡ all_at (index_step (expr_at (utf8_in l.reader.text.now) l.reader.depth.levels)) l.fn.reader.tokens.now
 
 abbrev pub decreases-loop-after : goal.decreases-loop-after
 decreases-loop-after l = length l.rest

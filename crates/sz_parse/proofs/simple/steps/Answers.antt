@@ -12,48 +12,69 @@ use Rattle.sz_parse_expr.proofs.ExpressionRows.{just, map_push}
 use Rattle.sz_parse.proofs.StatementTurns.{all_start, step_here, step_gone, no_step_at_end}
 use Rattle.sz_parse.proofs.simple.steps.Goals as goal
 
-pub loop-items-init : goal.loop-items-init
-loop-items-init c =
+pub loop-reader-init : goal.loop-reader-init
+loop-reader-init c =
     let made : (map step_of c.new-items.result.items) ≡ [] = rw c.new-items.ensures.items refl in
-    rw made (all_start (path_step (utf8_in c.args.text.now) (expr_at (utf8_in c.args.text.now) c.args.inner.levels)) c.args.tokens.now)
+    rw made (all_start
+    (path_step (utf8_in c.args.reader.text.now) (expr_at (utf8_in c.args.reader.text.now) c.args.reader.depth.levels))
+    c.args.reader.tokens.now)
 
-pub loop-items-smaller : goal.loop-items-smaller
-loop-items-smaller c =
-    item_shorter (path_item (utf8_in c.args.text.now) (expr_at (utf8_in c.args.text.now) c.args.inner.levels) c.args.inner.levels
-    (expr_sound (utf8_in c.args.text.now) c.args.inner.levels))
-    (step_of c.in_ok-item.item) c.loop-items.rest.now c.in_ok-item.after.now
-    ((step_here (utf8_in c.args.text.now) (expr_at (utf8_in c.args.text.now) c.args.inner.levels) c.loop-items.rest.now c.in-Some.field-0.now c.in-Some.ensures.value
-    ∙ ap just c.in_ok-item.ensures.read))
+pub loop-reader-smaller : goal.loop-reader-smaller
+loop-reader-smaller c =
+    item_shorter (path_item (utf8_in c.args.reader.text.now)
+    (expr_at (utf8_in c.args.reader.text.now) c.args.reader.depth.levels) c.args.reader.depth.levels
+    (expr_sound (utf8_in c.args.reader.text.now) c.args.reader.depth.levels))
+    (step_of c.in_ok-item.item) c.loop-reader.rest.now c.in_ok-item.after.now
+    ((step_here (utf8_in c.args.reader.text.now)
+    (expr_at (utf8_in c.args.reader.text.now) c.args.reader.depth.levels) c.loop-reader.rest.now
+    c.in-Some.field-0.now c.in-Some.ensures.value
+    ∙ ap just (rw c.at.ensures.value at c.in_ok-item.ensures.read)))
 
 pub returns-in_err-item : goal.returns-in_err-item
 returns-in_err-item c =
     let p = err_from_is_err_and c.from_residual.result c.from_residual.ensures.1 in
     record {
       read = rw (p.1, p.2)
-          (all_fails c.in_err-item.field-0.0 (path_step (utf8_in c.args.text.now) (expr_at (utf8_in c.args.text.now) c.args.inner.levels))
-          (no_step_at_end (utf8_in c.args.text.now) (expr_at (utf8_in c.args.text.now) c.args.inner.levels)) (map step_of c.loop-items.items.items)
-          c.loop-items.rest.now _ _
-          (step_here (utf8_in c.args.text.now)
-          (expr_at (utf8_in c.args.text.now) c.args.inner.levels) c.loop-items.rest.now c.in-Some.field-0.now c.in-Some.ensures.value) c.in_err-item.ensures.read
-          c.loop-items.invariant);
+          (all_fails c.in_err-item.field-0.0
+          (path_step (utf8_in c.args.reader.text.now)
+          (expr_at (utf8_in c.args.reader.text.now) c.args.reader.depth.levels))
+          (no_step_at_end (utf8_in c.args.reader.text.now)
+          (expr_at (utf8_in c.args.reader.text.now) c.args.reader.depth.levels))
+          (map step_of c.loop-reader.items.items)
+          c.loop-reader.rest.now _ _
+          (step_here (utf8_in c.args.reader.text.now)
+          (expr_at (utf8_in c.args.reader.text.now) c.args.reader.depth.levels)
+          c.loop-reader.rest.now c.in-Some.field-0.now c.in-Some.ensures.value)
+          (rw c.at.ensures.value at c.in_err-item.ensures.read)
+          c.loop-reader.invariant);
     }
 
-pub loop-items-preserved : goal.loop-items-preserved
-loop-items-preserved c =
-    let made : (map step_of c.push.new.self.items) ≡ (map step_of c.loop-items.items.items) ++ (step_of c.in_ok-item.item) ∷ [] =
-    rw c.in_ok-push.ensures.items (map_push step_of c.loop-items.items.items c.in_ok-item.item) in
-    rw made (all_goes_on (path_item (utf8_in c.args.text.now) (expr_at (utf8_in c.args.text.now) c.args.inner.levels) c.args.inner.levels
-    (expr_sound (utf8_in c.args.text.now) c.args.inner.levels))
-    (no_step_at_end (utf8_in c.args.text.now) (expr_at (utf8_in c.args.text.now) c.args.inner.levels)) (map step_of c.loop-items.items.items)
-    (step_of c.in_ok-item.item) c.loop-items.rest.now c.in_ok-item.after.now _
-    ((step_here (utf8_in c.args.text.now) (expr_at (utf8_in c.args.text.now) c.args.inner.levels) c.loop-items.rest.now c.in-Some.field-0.now c.in-Some.ensures.value
-    ∙ ap just c.in_ok-item.ensures.read)) c.loop-items.invariant)
+pub loop-reader-preserved : goal.loop-reader-preserved
+loop-reader-preserved c =
+    let made : (map step_of c.push.new.self.items) ≡ (map step_of c.loop-reader.items.items)
+    ++ (step_of c.in_ok-item.item) ∷ [] =
+    rw c.in_ok-push.ensures.items (map_push step_of c.loop-reader.items.items c.in_ok-item.item) in
+    rw made (all_goes_on
+    (path_item (utf8_in c.args.reader.text.now) (expr_at (utf8_in c.args.reader.text.now) c.args.reader.depth.levels)
+    c.args.reader.depth.levels
+    (expr_sound (utf8_in c.args.reader.text.now) c.args.reader.depth.levels))
+    (no_step_at_end (utf8_in c.args.reader.text.now)
+    (expr_at (utf8_in c.args.reader.text.now) c.args.reader.depth.levels))
+    (map step_of c.loop-reader.items.items)
+    (step_of c.in_ok-item.item) c.loop-reader.rest.now c.in_ok-item.after.now _
+    ((step_here (utf8_in c.args.reader.text.now)
+    (expr_at (utf8_in c.args.reader.text.now) c.args.reader.depth.levels) c.loop-reader.rest.now
+    c.in-Some.field-0.now c.in-Some.ensures.value
+    ∙ ap just (rw c.at.ensures.value at c.in_ok-item.ensures.read))) c.loop-reader.invariant)
 
 pub returns : goal.returns
 returns c =
     record {
-      read = all_ends (path_step (utf8_in c.args.text.now) (expr_at (utf8_in c.args.text.now) c.args.inner.levels))
-          (map step_of c.loop-items.items.items) c.loop-items.rest.now _
-          (step_gone (utf8_in c.args.text.now) (expr_at (utf8_in c.args.text.now) c.args.inner.levels) c.loop-items.rest.now c.in_default.ensures.value)
-          c.loop-items.invariant;
+      read = all_ends (path_step (utf8_in c.args.reader.text.now)
+          (expr_at (utf8_in c.args.reader.text.now) c.args.reader.depth.levels))
+          (map step_of c.loop-reader.items.items) c.loop-reader.rest.now _
+          (step_gone (utf8_in c.args.reader.text.now)
+          (expr_at (utf8_in c.args.reader.text.now) c.args.reader.depth.levels) c.loop-reader.rest.now
+          c.in_default.ensures.value)
+          c.loop-reader.invariant;
     }

@@ -7,10 +7,12 @@ use Rattle.sz_parse.specs.ReadingStatements.{path_step}
 use Rattle.sz_parse.proofs.simple.steps.Given as goal
 
 -- the items so far, and those that are read from here, are all of them
-abbrev pub invariant-loop-items : goal.invariant-loop-items
-invariant-loop-items l =
-    with_items (map step_of l.items.items) (all_at (path_step (utf8_in l.text) (expr_at (utf8_in l.text) l.inner.levels)) l.rest)
-    ≡ all_at (path_step (utf8_in l.text) (expr_at (utf8_in l.text) l.inner.levels)) l.fn.tokens
+abbrev pub invariant-loop-reader : goal.invariant-loop-reader
+invariant-loop-reader l =
+    with_items (map step_of l.items.items) (all_at
+    (path_step (utf8_in l.reader.text.now) (expr_at (utf8_in l.reader.text.now) l.reader.depth.levels)) l.rest)
+    ≡ all_at (path_step (utf8_in l.reader.text.now) (expr_at (utf8_in l.reader.text.now) l.reader.depth.levels))
+    l.fn.reader.tokens.now
 
-abbrev pub decreases-loop-items : goal.decreases-loop-items
-decreases-loop-items l = length l.rest
+abbrev pub decreases-loop-reader : goal.decreases-loop-reader
+decreases-loop-reader l = length l.rest

@@ -12,52 +12,72 @@ use Rattle.sz_parse_expr.proofs.ExpressionRows.{just, map_push}
 use Rattle.sz_parse.proofs.StatementTurns.{quantifier_here, quantifier_gone, no_quantifier_at_end, quantifiers_start}
 use Rattle.sz_parse.proofs.table.quantifiers_after.Goals as goal
 
-pub loop-items-init : goal.loop-items-init
-loop-items-init c =
+pub loop-reader-init : goal.loop-reader-init
+loop-reader-init c =
     let made : (map quantifier_of c.push.new.self.items) ≡ (quantifier_of c.args.first) ∷ [] =
     rw (c.in_ok-push.ensures.items, c.new-items.ensures.items) refl in
-    rw made (quantifiers_start (utf8_in c.args.text.now) (type_at (utf8_in c.args.text.now) c.args.inner.levels) (quantifier_of c.args.first) c.args.tokens.now)
+    rw made (quantifiers_start (utf8_in c.args.reader.text.now)
+    (type_at (utf8_in c.args.reader.text.now) c.args.reader.depth.levels)
+    (quantifier_of c.args.first) c.args.reader.tokens.now)
 
-pub loop-items-smaller : goal.loop-items-smaller
-loop-items-smaller c =
-    item_shorter (quantifier_item (utf8_in c.args.text.now) (type_at (utf8_in c.args.text.now) c.args.inner.levels) c.args.inner.levels
-    (type_sound (utf8_in c.args.text.now) c.args.inner.levels))
-    (quantifier_of c.in_ok-item.item) c.loop-items.rest.now c.in_ok-item.after.now
-    ((quantifier_here (utf8_in c.args.text.now) (type_at (utf8_in c.args.text.now) c.args.inner.levels) c.loop-items.rest.now c.in-Some.field-0.now
+pub loop-reader-smaller : goal.loop-reader-smaller
+loop-reader-smaller c =
+    item_shorter (quantifier_item (utf8_in c.args.reader.text.now)
+    (type_at (utf8_in c.args.reader.text.now) c.args.reader.depth.levels)
+    c.args.reader.depth.levels
+    (type_sound (utf8_in c.args.reader.text.now) c.args.reader.depth.levels))
+    (quantifier_of c.in_ok-item.item) c.loop-reader.rest.now c.in_ok-item.after.now
+    ((quantifier_here (utf8_in c.args.reader.text.now)
+    (type_at (utf8_in c.args.reader.text.now) c.args.reader.depth.levels) c.loop-reader.rest.now
+    c.in-Some.field-0.now
     c.in-Some.ensures.value
-    ∙ ap just c.in_ok-item.ensures.read))
+    ∙ ap just (rw c.at.ensures.value at c.in_ok-item.ensures.read)))
 
 pub returns-in_err-item : goal.returns-in_err-item
 returns-in_err-item c =
     let p = err_from_is_err_and c.from_residual-in_err-item.result c.from_residual-in_err-item.ensures.1 in
     record {
       read = rw (p.1, p.2)
-          (all_fails c.in_err-item.field-0.0 (quantifier_step (utf8_in c.args.text.now) (type_at (utf8_in c.args.text.now) c.args.inner.levels))
-          (no_quantifier_at_end (utf8_in c.args.text.now) (type_at (utf8_in c.args.text.now) c.args.inner.levels))
-          (map quantifier_of c.loop-items.items.items) c.loop-items.rest.now _ _
-          (quantifier_here (utf8_in c.args.text.now)
-          (type_at (utf8_in c.args.text.now) c.args.inner.levels) c.loop-items.rest.now c.in-Some.field-0.now c.in-Some.ensures.value) c.in_err-item.ensures.read
-          c.loop-items.invariant);
+          (all_fails c.in_err-item.field-0.0
+          (quantifier_step (utf8_in c.args.reader.text.now)
+          (type_at (utf8_in c.args.reader.text.now) c.args.reader.depth.levels))
+          (no_quantifier_at_end (utf8_in c.args.reader.text.now)
+          (type_at (utf8_in c.args.reader.text.now) c.args.reader.depth.levels))
+          (map quantifier_of c.loop-reader.items.items) c.loop-reader.rest.now _ _
+          (quantifier_here (utf8_in c.args.reader.text.now)
+          (type_at (utf8_in c.args.reader.text.now) c.args.reader.depth.levels)
+          c.loop-reader.rest.now c.in-Some.field-0.now c.in-Some.ensures.value)
+          (rw c.at.ensures.value at c.in_err-item.ensures.read)
+          c.loop-reader.invariant);
     }
 
-pub loop-items-preserved : goal.loop-items-preserved
-loop-items-preserved c =
-    let made : (map quantifier_of c.push-in-Some.new.self.items) ≡ (map quantifier_of c.loop-items.items.items) ++ (quantifier_of c.in_ok-item.item) ∷
-    [] = rw c.in_ok-push-2.ensures.items (map_push quantifier_of c.loop-items.items.items c.in_ok-item.item) in
+pub loop-reader-preserved : goal.loop-reader-preserved
+loop-reader-preserved c =
+    let made : (map quantifier_of c.push-in-Some.new.self.items) ≡ (map quantifier_of c.loop-reader.items.items)
+    ++ (quantifier_of c.in_ok-item.item) ∷
+    [] = rw c.in_ok-push-2.ensures.items (map_push quantifier_of c.loop-reader.items.items c.in_ok-item.item) in
     rw made (all_goes_on
-    (quantifier_item (utf8_in c.args.text.now) (type_at (utf8_in c.args.text.now) c.args.inner.levels) c.args.inner.levels
-    (type_sound (utf8_in c.args.text.now) c.args.inner.levels))
-    (no_quantifier_at_end (utf8_in c.args.text.now) (type_at (utf8_in c.args.text.now) c.args.inner.levels)) (map quantifier_of c.loop-items.items.items)
-    (quantifier_of c.in_ok-item.item) c.loop-items.rest.now c.in_ok-item.after.now _
-    ((quantifier_here (utf8_in c.args.text.now) (type_at (utf8_in c.args.text.now) c.args.inner.levels) c.loop-items.rest.now c.in-Some.field-0.now
+    (quantifier_item (utf8_in c.args.reader.text.now)
+    (type_at (utf8_in c.args.reader.text.now) c.args.reader.depth.levels) c.args.reader.depth.levels
+    (type_sound (utf8_in c.args.reader.text.now) c.args.reader.depth.levels))
+    (no_quantifier_at_end (utf8_in c.args.reader.text.now)
+    (type_at (utf8_in c.args.reader.text.now) c.args.reader.depth.levels))
+    (map quantifier_of c.loop-reader.items.items)
+    (quantifier_of c.in_ok-item.item) c.loop-reader.rest.now c.in_ok-item.after.now _
+    ((quantifier_here (utf8_in c.args.reader.text.now)
+    (type_at (utf8_in c.args.reader.text.now) c.args.reader.depth.levels) c.loop-reader.rest.now
+    c.in-Some.field-0.now
     c.in-Some.ensures.value
-    ∙ ap just c.in_ok-item.ensures.read)) c.loop-items.invariant)
+    ∙ ap just (rw c.at.ensures.value at c.in_ok-item.ensures.read))) c.loop-reader.invariant)
 
 pub returns : goal.returns
 returns c =
     record {
-      read = all_ends (quantifier_step (utf8_in c.args.text.now) (type_at (utf8_in c.args.text.now) c.args.inner.levels))
-          (map quantifier_of c.loop-items.items.items) c.loop-items.rest.now _
-          (quantifier_gone (utf8_in c.args.text.now) (type_at (utf8_in c.args.text.now) c.args.inner.levels) c.loop-items.rest.now c.in_default.ensures.value)
-          c.loop-items.invariant;
+      read = all_ends (quantifier_step (utf8_in c.args.reader.text.now)
+          (type_at (utf8_in c.args.reader.text.now) c.args.reader.depth.levels))
+          (map quantifier_of c.loop-reader.items.items) c.loop-reader.rest.now _
+          (quantifier_gone (utf8_in c.args.reader.text.now)
+          (type_at (utf8_in c.args.reader.text.now) c.args.reader.depth.levels)
+          c.loop-reader.rest.now c.in_default.ensures.value)
+          c.loop-reader.invariant;
     }

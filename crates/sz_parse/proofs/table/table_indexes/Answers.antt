@@ -16,48 +16,68 @@ use Rattle.sz_parse.proofs.table.table_indexes.Goals as goal
 pub loop-after-init : goal.loop-after-init
 loop-after-init c =
     let made : (map elem_of c.new-items.result.items) ≡ [] = rw c.new-items.ensures.items refl in
-    rw made (all_start (table_index_step (utf8_in c.args.text.now) (type_at (utf8_in c.args.text.now) c.args.inner.levels)) c.args.tokens.now)
+    rw made (all_start (table_index_step (utf8_in c.args.reader.text.now)
+    (type_at (utf8_in c.args.reader.text.now) c.args.reader.depth.levels))
+    c.args.reader.tokens.now)
 
 pub loop-after-smaller : goal.loop-after-smaller
 loop-after-smaller c =
-    item_shorter (table_index_item (utf8_in c.args.text.now) (type_at (utf8_in c.args.text.now) c.args.inner.levels) c.args.inner.levels
-    (type_sound (utf8_in c.args.text.now) c.args.inner.levels))
+    item_shorter (table_index_item (utf8_in c.args.reader.text.now)
+    (type_at (utf8_in c.args.reader.text.now) c.args.reader.depth.levels)
+    c.args.reader.depth.levels
+    (type_sound (utf8_in c.args.reader.text.now) c.args.reader.depth.levels))
     (elem_of c.in_ok-item.item) c.loop-after.rest.now c.in_ok-item.after.now
-    ((table_index_here (utf8_in c.args.text.now) (type_at (utf8_in c.args.text.now) c.args.inner.levels) c.loop-after.rest.now c.in-Some.after.now
+    ((table_index_here (utf8_in c.args.reader.text.now)
+    (type_at (utf8_in c.args.reader.text.now) c.args.reader.depth.levels) c.loop-after.rest.now
+    c.in-Some.after.now
     c.in-Some.ensures.value
-    ∙ ap just c.in_ok-item.ensures.read))
+    ∙ ap just (rw c.at.ensures.value at c.in_ok-item.ensures.read)))
 
 pub returns-in_err-item : goal.returns-in_err-item
 returns-in_err-item c =
     let p = err_from_is_err_and c.from_residual.result c.from_residual.ensures.1 in
     record {
       read = rw (p.1, p.2)
-          (all_fails c.in_err-item.field-0.0 (table_index_step (utf8_in c.args.text.now) (type_at (utf8_in c.args.text.now) c.args.inner.levels))
-          (no_table_index_at_end (utf8_in c.args.text.now) (type_at (utf8_in c.args.text.now) c.args.inner.levels))
+          (all_fails c.in_err-item.field-0.0
+          (table_index_step (utf8_in c.args.reader.text.now)
+          (type_at (utf8_in c.args.reader.text.now) c.args.reader.depth.levels))
+          (no_table_index_at_end (utf8_in c.args.reader.text.now)
+          (type_at (utf8_in c.args.reader.text.now) c.args.reader.depth.levels))
           (map elem_of c.loop-after.items.items) c.loop-after.rest.now _ _
-          (table_index_here (utf8_in c.args.text.now)
-          (type_at (utf8_in c.args.text.now) c.args.inner.levels) c.loop-after.rest.now c.in-Some.after.now c.in-Some.ensures.value) c.in_err-item.ensures.read
+          (table_index_here (utf8_in c.args.reader.text.now)
+          (type_at (utf8_in c.args.reader.text.now) c.args.reader.depth.levels)
+          c.loop-after.rest.now c.in-Some.after.now c.in-Some.ensures.value)
+          (rw c.at.ensures.value at c.in_err-item.ensures.read)
           c.loop-after.invariant);
     }
 
 pub loop-after-preserved : goal.loop-after-preserved
 loop-after-preserved c =
-    let made : (map elem_of c.push.new.self.items) ≡ (map elem_of c.loop-after.items.items) ++ (elem_of c.in_ok-item.item) ∷ [] =
+    let made : (map elem_of c.push.new.self.items) ≡ (map elem_of c.loop-after.items.items)
+    ++ (elem_of c.in_ok-item.item) ∷ [] =
     rw c.in_ok-push.ensures.items (map_push elem_of c.loop-after.items.items c.in_ok-item.item) in
     rw made (all_goes_on
-    (table_index_item (utf8_in c.args.text.now) (type_at (utf8_in c.args.text.now) c.args.inner.levels) c.args.inner.levels
-    (type_sound (utf8_in c.args.text.now) c.args.inner.levels))
-    (no_table_index_at_end (utf8_in c.args.text.now) (type_at (utf8_in c.args.text.now) c.args.inner.levels)) (map elem_of c.loop-after.items.items)
+    (table_index_item (utf8_in c.args.reader.text.now)
+    (type_at (utf8_in c.args.reader.text.now) c.args.reader.depth.levels) c.args.reader.depth.levels
+    (type_sound (utf8_in c.args.reader.text.now) c.args.reader.depth.levels))
+    (no_table_index_at_end (utf8_in c.args.reader.text.now)
+    (type_at (utf8_in c.args.reader.text.now) c.args.reader.depth.levels))
+    (map elem_of c.loop-after.items.items)
     (elem_of c.in_ok-item.item) c.loop-after.rest.now c.in_ok-item.after.now _
-    ((table_index_here (utf8_in c.args.text.now) (type_at (utf8_in c.args.text.now) c.args.inner.levels) c.loop-after.rest.now c.in-Some.after.now
+    ((table_index_here (utf8_in c.args.reader.text.now)
+    (type_at (utf8_in c.args.reader.text.now) c.args.reader.depth.levels) c.loop-after.rest.now
+    c.in-Some.after.now
     c.in-Some.ensures.value
-    ∙ ap just c.in_ok-item.ensures.read)) c.loop-after.invariant)
+    ∙ ap just (rw c.at.ensures.value at c.in_ok-item.ensures.read))) c.loop-after.invariant)
 
 pub returns : goal.returns
 returns c =
     record {
-      read = all_ends (table_index_step (utf8_in c.args.text.now) (type_at (utf8_in c.args.text.now) c.args.inner.levels))
+      read = all_ends (table_index_step (utf8_in c.args.reader.text.now)
+          (type_at (utf8_in c.args.reader.text.now) c.args.reader.depth.levels))
           (map elem_of c.loop-after.items.items) c.loop-after.rest.now _
-          (table_index_gone (utf8_in c.args.text.now) (type_at (utf8_in c.args.text.now) c.args.inner.levels) c.loop-after.rest.now c.in_default.ensures.value)
+          (table_index_gone (utf8_in c.args.reader.text.now)
+          (type_at (utf8_in c.args.reader.text.now) c.args.reader.depth.levels)
+          c.loop-after.rest.now c.in_default.ensures.value)
           c.loop-after.invariant;
     }

@@ -9,8 +9,11 @@ use Rattle.sz_parse.proofs.table.table_indexes.Given as goal
 -- the items so far, and those that are read from here, are all of them
 abbrev pub invariant-loop-after : goal.invariant-loop-after
 invariant-loop-after l =
-    with_items (map elem_of l.items.items) (all_at (table_index_step (utf8_in l.text) (type_at (utf8_in l.text) l.inner.levels)) l.rest)
-    ≡ all_at (table_index_step (utf8_in l.text) (type_at (utf8_in l.text) l.inner.levels)) l.fn.tokens
+    with_items (map elem_of l.items.items)
+    (all_at
+    (table_index_step (utf8_in l.reader.text.now) (type_at (utf8_in l.reader.text.now) l.reader.depth.levels)) l.rest)
+    ≡ all_at (table_index_step (utf8_in l.reader.text.now)
+    (type_at (utf8_in l.reader.text.now) l.reader.depth.levels)) l.fn.reader.tokens.now
 
 abbrev pub decreases-loop-after : goal.decreases-loop-after
 decreases-loop-after l = length l.rest

@@ -13,7 +13,8 @@ loop-one-preserved c =
     let before = map Ok l.pieces.items in (
       ap (λ ps. map Ok ps ++ rest) c.in_ok-push.ensures.items
           ∙ one_made l.pieces.items piece rest c.args.made.items
-          (ap (λ one. before ++ one ∷ rest) (sym c.in_ok-piece.was) ∙ ap (λ ones. before ++ ones) (sym steps.0) ∙ l.invariant.0),
+          (ap (λ one. before ++ one ∷ rest) (sym c.in_ok-piece.was) ∙ ap (λ ones. before ++ ones) (sym steps.0)
+          ∙ l.invariant.0),
       omega (arith, l.invariant.1, ap length steps.0, steps.1),
     )
 
@@ -23,5 +24,6 @@ returns c =
     let l = c.loop-one in
     let rest = into_iter_items l.one-iterator in
     record {
-      value = all_are_made (map Ok l.pieces.items) rest c.args.made.items (omega (arith, l.invariant.1, c.in-None.ensures.steps.0)) l.invariant.0;
+      value = all_are_made (map Ok l.pieces.items) rest c.args.made.items
+          (omega (arith, l.invariant.1, c.in-None.ensures.steps.0)) l.invariant.0;
     }

@@ -21,8 +21,10 @@ returns g c =
     let made = c.in_ok-made.made.items in
     let long : length made ≡ c.div_ceil.result = (let n = c.in_ok-made.ensures.len in search rules) in
     record {
-      value = IfOk-weaker c.all_made.result (λ pieces. map Ok pieces.items ≡ made) (λ pieces. concat pieces.items ≡ table_lines table all)
+      value = IfOk-weaker c.all_made.result (λ pieces. map Ok pieces.items ≡ made)
+          (λ pieces. concat pieces.items ≡ table_lines table all)
           (λ pieces same. pieces_are_lines table all c.args.size made pieces.items same
           (λ n d below. (c.in_ok-made.ensures.each n d (omega (arith, long, below))).1.met) c.requires.size
-          (long ∙ (c.div_ceil.ensures ∙ ap (λ n. div_ceil n c.args.size) c.len.ensures.value))) c.all_made.ensures.value;
+          (long ∙ (c.div_ceil.ensures ∙ ap (λ n. div_ceil n c.args.size) c.len.ensures.value)))
+          c.all_made.ensures.value;
     }

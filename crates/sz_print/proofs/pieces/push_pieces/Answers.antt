@@ -11,7 +11,8 @@ loop-piece-preserved c =
     let steps = c.in-Some.ensures.steps in
     let piece = c.in-Some.piece in
     let rest = concat (into_iter_items c.next.new.self) in (
-      ap (λ text. text ++ rest) (c.in_ok-extend_from_slice.ensures.items ∙ ap (λ text. l.out.items ++ text) c.as_slice-in-loop-piece.ensures.value)
+      ap (λ text. text ++ rest) (c.in_ok-extend_from_slice.ensures.items
+          ∙ ap (λ text. l.out.items ++ text) c.as_slice-in-loop-piece.ensures.value)
           ∙ append_assoc l.out.items piece rest
           ∙ ap (λ pieces. l.out.items ++ concat pieces) (sym steps.0)
           ∙ l.invariant.0,
@@ -23,7 +24,7 @@ pub returns : goal.returns
 returns c =
     let l = c.loop-piece in
     record {
-      value = all_are_appended l.out.items (c.args.out.now.items ++ concat c.args.pieces.items) (into_iter_items l.piece-iterator)
-          (omega (arith, l.invariant.1, c.in-None.ensures.steps.0))
+      value = all_are_appended l.out.items (c.args.out.now.items ++ concat c.args.pieces.items)
+          (into_iter_items l.piece-iterator) (omega (arith, l.invariant.1, c.in-None.ensures.steps.0))
           (l.invariant.0 ∙ ap (λ text. text ++ concat c.args.pieces.items) c.in_ok-reserve_exact.ensures.items);
     }

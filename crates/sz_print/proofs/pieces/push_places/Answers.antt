@@ -20,9 +20,10 @@ loop-place-preserved c =
     let table = seen_table c.args.table.now in
     let before = c.args.out.now.items in
     let there = found_after from c.args.shown.now at one
-    (ap (slice_get c.args.shown.now) (sym here) ∙ c.in_ok-list.ensures.value ∙ ap (λ s. Some s) (sym c.list.view_is)) in (
+    (ap (slice_get c.args.shown.now) (sym here) ∙ c.in_ok-list.ensures.value
+    ∙ ap (λ s. Some s) (sym c.list.view_is)) in (
       omega (arith, low),
       subst (λ (n : ℕ). c.push_rows.new.out.items ≡ before ++ table_lines table (take n rest)) next
-          (lines_more table rest at one before c.loop-place.out.items c.push_rows.new.out.items there c.in_ok-push_rows.ensures.value
-          c.loop-place.invariant.1),
+          (lines_more table rest at one before c.loop-place.out.items c.push_rows.new.out.items there
+          c.in_ok-push_rows.ensures.value c.loop-place.invariant.1),
     )

@@ -7,4 +7,5 @@ use Rattle.sz_print.proofs.pieces.push_places.Given as goal
 abbrev pub invariant-loop-place : goal.invariant-loop-place
 invariant-loop-place l =
     (l.from ≤ l.place)
-    × (l.out.items ≡ l.initial.out.items ++ table_lines (seen_table l.table) (take (l.place - l.from) (drop l.from l.shown)))
+    × (l.out.items
+    ≡ l.initial.out.items ++ table_lines (seen_table l.table) (take (l.place - l.from) (drop l.from l.shown)))

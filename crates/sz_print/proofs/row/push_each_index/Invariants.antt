@@ -5,4 +5,5 @@ use Rattle.sz_print.specs.Lines.{index_text}
 use Rattle.sz_print.proofs.row.push_each_index.Given as goal
 
 abbrev pub invariant-loop-index : goal.invariant-loop-index
-invariant-loop-index l = l.out.items ≡ l.initial.out.items ++ flat_map index_text (map seen (take l.index-index l.indexes))
+invariant-loop-index l =
+    l.out.items ≡ l.initial.out.items ++ flat_map index_text (map seen (take l.index-index l.indexes))

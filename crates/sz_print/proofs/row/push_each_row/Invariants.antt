@@ -7,4 +7,5 @@ use Rattle.sz_print.proofs.row.push_each_row.Given as goal
 
 abbrev pub invariant-loop-row : goal.invariant-loop-row
 invariant-loop-row l =
-    l.out.items ≡ l.initial.out.items ++ flat_map (row_line (seen_table l.table) (map seen l.indexes)) (take l.row-index l.rows)
+    l.out.items
+    ≡ l.initial.out.items ++ flat_map (row_line (seen_table l.table) (map seen l.indexes)) (take l.row-index l.rows)

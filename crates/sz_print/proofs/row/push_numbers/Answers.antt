@@ -13,6 +13,7 @@ loop-at-preserved c =
     let n = get_or c.args.numbers.now c.loop-at.at (pos 0) in
     let fits : FitsSigned w128 n = search rules in
     let comma = c.push_comma.new.out.items in
-    one_more signed_decimal c.args.numbers.now c.loop-at.at n c.args.out.now.items c.loop-at.out.items comma c.push_number.new.out.items c.loop-at-test.true
-    (get_or_default c.args.numbers.now c.loop-at.at (pos 0) n c.loop-at-test.true) c.loop-at.invariant c.in_ok-push_comma.ensures.value
+    one_more signed_decimal c.args.numbers.now c.loop-at.at n c.args.out.now.items c.loop-at.out.items comma
+    c.push_number.new.out.items c.loop-at-test.true (get_or_default c.args.numbers.now c.loop-at.at (pos 0) n
+    c.loop-at-test.true) c.loop-at.invariant c.in_ok-push_comma.ensures.value
     (c.in_ok-push_number.ensures.value ∙ ap (λ m. comma ++ signed_decimal m) (to_z-of_z w128 n fits))

@@ -10,4 +10,5 @@ pub returns-clause-value : goal.returns-clause-value
 returns-clause-value c = λ emits stands.
     IfOk-weaker c.text_of_rows.result (λ text. text.items ≡ rows_text c.args.tables.now (shown c.args.total.now))
     (λ text. text.items ≡ tables_text c.args.tables.now emits)
-    (λ text is. text_of_emits c.args.total.now c.args.tables.now text.items c.requires.declared is emits stands) c.text_of_rows.ensures.rows
+    (λ text is. text_of_emits c.args.total.now c.args.tables.now text.items c.requires.declared is emits stands)
+    c.text_of_rows.ensures.rows

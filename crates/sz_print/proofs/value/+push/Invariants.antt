@@ -7,7 +7,8 @@ use Rattle.sz_print.specs.Text.{value_text, pair_text}
 use Rattle.sz_print.proofs.value.+push.Given as goal
 
 abbrev pub invariant-push_parts-loop-at : goal.invariant-push_parts-loop-at
-invariant-push_parts-loop-at l = l.out.items ≡ l.initial.out.items ++ joined (λ v. value_text (seen v)) (take l.at l.parts)
+invariant-push_parts-loop-at l =
+    l.out.items ≡ l.initial.out.items ++ joined (λ v. value_text (seen v)) (take l.at l.parts)
 
 abbrev pub invariant-push_pairs-loop-place : goal.invariant-push_pairs-loop-place
 invariant-push_pairs-loop-place l = l.out.items ≡ l.initial.out.items ++ joined pair_text (take l.place l.pairs)

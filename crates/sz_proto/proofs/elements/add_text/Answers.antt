@@ -13,7 +13,8 @@ pub returns-in_ok-push-in-Span : goal.returns-in_ok-push-in-Span
 returns-in_ok-push-in-Span c = record {
   value = (
     values.str c.in_ok-new-in-Span.field-0 ∷ [],
-    rw (c.in-Span.is, is_utf8-from_IsUtf8 _ c.in-Ok.ensures.1, c.in_ok-new-in-Span.ensures.value, c.in-Ok.ensures.0) refl,
+    rw (c.in-Span.is, is_utf8-from_IsUtf8 _ c.in-Ok.ensures.1, c.in_ok-new-in-Span.ensures.value, c.in-Ok.ensures.0)
+        refl,
     rw c.in_ok-push-in-Span.ensures.items (map-append seen c.args.elements.now.items _),
   );
 }

@@ -5,10 +5,13 @@ use Rattle.sz_proto.proofs.GoingLemmas.{from_taken, from_end}
 use Rattle.sz_proto.proofs.elements.octets.Goals as goal
 
 pub loop-field-preserved : goal.loop-field-preserved
-loop-field-preserved c = from_taken octets_each c.args.bytes.now c.args.run.now (in_all octets_each (contents c.args.bytes.now c.args.run.now)) c.loop-field.field-index _ _ _ _ c.loop-field.invariant
+loop-field-preserved c = from_taken octets_each c.args.bytes.now c.args.run.now (in_all octets_each
+    (contents c.args.bytes.now c.args.run.now)) c.loop-field.field-index _ _ _ _ c.loop-field.invariant
     c.loop-field-test.true c.if-not-branch.false c.in_ok-add_octets.ensures.value
 
 pub returns : goal.returns
 returns c = record {
-  value = c.array.ensures.value ∙ sym (ap array_of (from_end octets_each c.args.bytes.now c.args.run.now (in_all octets_each (contents c.args.bytes.now c.args.run.now)) c.loop-field.field-index _ c.loop-field.invariant c.loop-field-test.false));
+  value = c.array.ensures.value
+      ∙ sym (ap array_of (from_end octets_each c.args.bytes.now c.args.run.now (in_all octets_each (contents
+      c.args.bytes.now c.args.run.now)) c.loop-field.field-index _ c.loop-field.invariant c.loop-field-test.false));
 }

@@ -21,5 +21,6 @@ loop-number-preserved c =
     ap (map seen) c.in_ok-push.ensures.items ∙ map-append seen c.loop-number.elements.items _
     ∙ ap (λ (ds : List Datum). ds ++ one) c.loop-number.invariant
     ∙ append_assoc (map seen c.args.elements.now.items) (map values.truth front) one
-    ∙ ap (λ (ds : List Datum). map seen c.args.elements.now.items ++ ds) (ap (λ (bs : List Bool). map values.truth front ++ map values.truth bs) (sym (nonzero n back))
+    ∙ ap (λ (ds : List Datum). map seen c.args.elements.now.items ++ ds)
+    (ap (λ (bs : List Bool). map values.truth front ++ map values.truth bs) (sym (nonzero n back))
     ∙ sym (ap (map values.truth) more ∙ map-append values.truth front (truths_of (n ∷ []))))

@@ -17,13 +17,17 @@ returns c =
     record {
       value = (
         read,
-        sym c.in_ok-found.ensures.value ∙ ap (option_map (λ (v : Vec WireField). map (field_in bytes) v.items)) c.in-Some.is,
+        sym c.in_ok-found.ensures.value
+            ∙ ap (option_map (λ (v : Vec WireField). map (field_in bytes) v.items)) c.in-Some.is,
         record {
           same = number_stays read c.sort_by_key.new.self.items
-              (c.in_ok-sort_by_key.ensures.stable (λ (f : WireField). f.number) (always_returns_same _ _ _ (λ a r f k. search (rules, of_calls))));
+              (c.in_ok-sort_by_key.ensures.stable (λ (f : WireField). f.number)
+              (always_returns_same _ _ _ (λ a r f k. search (rules, of_calls))));
           order = IsNonDecreasingBy-from_sort (λ (f : WireField). f.number) c.sort_by_key.new.self.items
-              (c.in_ok-sort_by_key.ensures.sorted (λ (f : WireField). f.number) (always_returns_same _ _ _ (λ a r f k. search (rules, of_calls))));
-          within = All-permutation (λ (f : WireField). LiesBefore (length bytes) f.kind) read c.sort_by_key.new.self.items
+              (c.in_ok-sort_by_key.ensures.sorted (λ (f : WireField). f.number)
+              (always_returns_same _ _ _ (λ a r f k. search (rules, of_calls))));
+          within =
+              All-permutation (λ (f : WireField). LiesBefore (length bytes) f.kind) read c.sort_by_key.new.self.items
               c.in_ok-sort_by_key.ensures.permutation within;
         },
       );

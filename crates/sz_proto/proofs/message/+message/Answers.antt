@@ -23,7 +23,8 @@ use Rattle.sz_proto.proofs.message.+message.Goals as goal
 -- what a call asks for: the type is smaller, the occurrences lie in the bytes, and the level is one
 pub value-message-requires : goal.value-message-requires
 value-message-requires t c =
-    let size = proto_size c.args.ty.now c.in-Proto.fields c.as_slice.result.now c.in-Proto.is c.as_slice.ensures.value in
+    let size =
+    proto_size c.args.ty.now c.in-Proto.fields c.as_slice.result.now c.in-Proto.is c.as_slice.ensures.value in
     (omega (arith, size, c.decreases), (c.requires.within, c.inside.ensures.level))
 
 pub value-elements-requires : goal.value-elements-requires
@@ -34,34 +35,46 @@ value-elements-requires t c =
 
 pub elements-messages-requires : goal.elements-messages-requires
 elements-messages-requires t c =
-    let size = proto_size c.args.element.now c.in-Proto.fields c.as_slice.result.now c.in-Proto.is c.as_slice.ensures.value in
+    let size =
+    proto_size c.args.element.now c.in-Proto.fields c.as_slice.result.now c.in-Proto.is c.as_slice.ensures.value in
     (omega (arith, size, c.decreases), (c.requires.within, c.inside.ensures.level))
 
 pub values-value-requires : goal.values-value-requires
 values-value-requires t c =
-    let smaller = field_smaller c.args.fields.now c.loop-field.field-index c.field-item.result c.loop-field-test.true c.field-item.is in (
+    let smaller = field_smaller c.args.fields.now c.loop-field.field-index c.field-item.result c.loop-field-test.true
+    c.field-item.is in (
       omega (arith, smaller, c.decreases),
       (
-        rw c.occurrences-run.ensures.value (All-filter _ (λ (f : WireField). LiesBefore (length c.args.bytes.now) f.kind) c.args.found.now c.requires.within),
+        rw c.occurrences-run.ensures.value (All-filter _
+            (λ (f : WireField). LiesBefore (length c.args.bytes.now) f.kind) c.args.found.now c.requires.within),
         c.requires.level,
       ),
     )
 
 pub value-returns-in-Bool : goal.value-returns-in-Bool
 unfolding value_of
-value-returns-in-Bool t c = record { value = rw (c.in-Bool.is, seen_bool) (ap (λ (b : Bool). Some (values.truth b)) (c.last_truth.ensures.value c.args.bytes.now)) }
+value-returns-in-Bool t c = record {
+  value = rw (c.in-Bool.is, seen_bool)
+      (ap (λ (b : Bool). Some (values.truth b)) (c.last_truth.ensures.value c.args.bytes.now));
+}
 
 pub value-returns-in-Int : goal.value-returns-in-Int
 unfolding value_of
 value-returns-in-Int t c =
     let back : to_z w64 (of_z w64 c.last_number.result) ≡ c.last_number.result = search rules in
-    record { value = rw (c.in-Int.is, seen_int) (ap (λ (n : ℤ). Some (values.int n)) (back ∙ c.last_number.ensures.value c.args.bytes.now)) }
+    record {
+      value = rw (c.in-Int.is, seen_int)
+          (ap (λ (n : ℤ). Some (values.int n)) (back ∙ c.last_number.ensures.value c.args.bytes.now));
+    }
 
 pub value-returns-in-Time : goal.value-returns-in-Time
 unfolding value_of
 value-returns-in-Time t c =
     let back : to_z w64 (of_z w64 c.last_number-in-Time.result) ≡ c.last_number-in-Time.result = search rules in
-    record { value = rw (c.in-Time.is, seen_time) (ap (λ (n : ℤ). Some (values.time n)) (back ∙ c.last_number-in-Time.ensures.value c.args.bytes.now)) }
+    record {
+      value = rw (c.in-Time.is, seen_time)
+          (ap (λ (n : ℤ). Some (values.time n)) (back ∙ c.last_number-in-Time.ensures.value c.args.bytes.now));
+    }
 
 pub value-returns-in-Str : goal.value-returns-in-Str
 unfolding value_of
@@ -73,11 +86,16 @@ value-returns-in-Bytes t c = record { value = rw (c.in-Bytes.is, seen_bytes) c.l
 
 pub value-returns-in-Proto : goal.value-returns-in-Proto
 unfolding value_of
-value-returns-in-Proto t c = record { value = rw (c.in-Proto.is, seen_proto c.in-Proto.fields) (rw (c.as_slice.ensures.value, c.inside.ensures.value) at c.message.ensures.value) }
+value-returns-in-Proto t c = record {
+  value = rw (c.in-Proto.is, seen_proto c.in-Proto.fields)
+      (rw (c.as_slice.ensures.value, c.inside.ensures.value) at c.message.ensures.value);
+}
 
 pub value-returns-in-Array : goal.value-returns-in-Array
 unfolding value_of
-value-returns-in-Array t c = record { value = rw (c.in-Array.is, seen_array c.in-Array.element) (rw c.deref.ensures at c.elements.ensures.value) }
+value-returns-in-Array t c = record {
+  value = rw (c.in-Array.is, seen_array c.in-Array.element) (rw c.deref.ensures at c.elements.ensures.value);
+}
 
 pub value-returns-in-Map : goal.value-returns-in-Map
 unfolding value_of
@@ -105,11 +123,17 @@ elements-returns-in-Str t c = record { value = rw (c.in-Str.is, seen_str) c.text
 
 pub elements-returns-in-Bytes : goal.elements-returns-in-Bytes
 unfolding elements_of
-elements-returns-in-Bytes t c = record { value = rw (c.in-Bytes.is, seen_bytes) (rw (all_octets (contents c.args.bytes.now c.args.run.now)) at c.octets.ensures.value) }
+elements-returns-in-Bytes t c = record {
+  value = rw (c.in-Bytes.is, seen_bytes)
+      (rw (all_octets (contents c.args.bytes.now c.args.run.now)) at c.octets.ensures.value);
+}
 
 pub elements-returns-in-Proto : goal.elements-returns-in-Proto
 unfolding elements_of
-elements-returns-in-Proto t c = record { value = rw (c.in-Proto.is, seen_proto c.in-Proto.fields) (rw (c.as_slice.ensures.value, c.inside.ensures.value) at c.messages.ensures.value) }
+elements-returns-in-Proto t c = record {
+  value = rw (c.in-Proto.is, seen_proto c.in-Proto.fields)
+      (rw (c.as_slice.ensures.value, c.inside.ensures.value) at c.messages.ensures.value);
+}
 
 pub elements-returns-in-Array : goal.elements-returns-in-Array
 unfolding elements_of
@@ -128,8 +152,10 @@ pub message-returns-in-Some : goal.message-returns-in-Some
 message-returns-in-Some t c =
     let bytes = c.args.bytes.now in
     let ps = payloads (contents bytes c.args.run.now) in
-    let found : AreFound bytes c.args.depth ps (length bytes) (Some c.in-Some.found) = rw c.in-Some.is at c.in_ok-found.ensures.value in
-    let here = message_is (fields_of (map types.seen_field c.args.fields.now)) c.args.depth (length bytes) bytes ps found.0 c.in-Some.found.items found.1 found.2 in
+    let found : AreFound bytes c.args.depth ps (length bytes) (Some c.in-Some.found) =
+    rw c.in-Some.is at c.in_ok-found.ensures.value in
+    let here = message_is (fields_of (map types.seen_field c.args.fields.now)) c.args.depth (length bytes) bytes ps
+    found.0 c.in-Some.found.items found.1 found.2 in
     record { value = rw here (rw c.as_slice.ensures.value at c.values.ensures.value) }
 
 pub message-returns-in-None : goal.message-returns-in-None
@@ -144,10 +170,12 @@ pub values-returns-in-Undefined : goal.values-returns-in-Undefined
 values-returns-in-Undefined t c =
     let bytes = c.args.bytes.now in
     let f = c.field-item.result in
-    let none = value_found bytes c.args.found.now c.occurrences-run.result.now f c.args.depth c.in_ok-value.field-0 c.occurrences-run.ensures.value c.in_ok-value.ensures.value
+    let none = value_found bytes c.args.found.now c.occurrences-run.result.now f
+    c.args.depth c.in_ok-value.field-0 c.occurrences-run.ensures.value c.in_ok-value.ensures.value
     ∙ ap seen_slot c.in-Undefined.is in
     record {
-      value = sym (ap tuple_of (value_none c.args.fields.now c.args.depth (map (field_in bytes) c.args.found.now) c.loop-field.field-index f (map seen c.loop-field.values.items)
+      value = sym (ap tuple_of (value_none c.args.fields.now c.args.depth (map (field_in bytes) c.args.found.now)
+          c.loop-field.field-index f (map seen c.loop-field.values.items)
           c.loop-field.invariant c.loop-field-test.true c.field-item.is none));
     }
 
@@ -156,16 +184,19 @@ values-loop-field-preserved t c =
     let bytes = c.args.bytes.now in
     let f = c.field-item.result in
     let fs = map (field_in bytes) c.args.found.now in
-    let one = value_found bytes c.args.found.now c.occurrences-run.result.now f c.args.depth c.in_ok-value.field-0 c.occurrences-run.ensures.value c.in_ok-value.ensures.value
+    let one = value_found bytes c.args.found.now c.occurrences-run.result.now f
+    c.args.depth c.in_ok-value.field-0 c.occurrences-run.ensures.value c.in_ok-value.ensures.value
     ∙ ap seen_slot c.in-Defined.is in
     subst (ValuesFrom c.args.fields.now c.args.depth fs (c.loop-field.field-index + 1))
-    (sym (ap (map seen) c.in_ok-push-in-Defined.ensures.items ∙ map-append seen c.loop-field.values.items (c.in-Defined.value ∷ [])))
-    (value_more c.args.fields.now c.args.depth fs c.loop-field.field-index f (map seen c.loop-field.values.items) (seen c.in-Defined.value)
-    c.loop-field.invariant c.loop-field-test.true c.field-item.is one)
+    (sym (ap (map seen) c.in_ok-push-in-Defined.ensures.items
+    ∙ map-append seen c.loop-field.values.items (c.in-Defined.value ∷ [])))
+    (value_more c.args.fields.now c.args.depth fs c.loop-field.field-index f (map seen c.loop-field.values.items)
+    (seen c.in-Defined.value) c.loop-field.invariant c.loop-field-test.true c.field-item.is one)
 
 pub values-returns : goal.values-returns
 values-returns t c = record {
-  value = sym (ap tuple_of (values_end c.args.fields.now c.args.depth (map (field_in c.args.bytes.now) c.args.found.now) c.loop-field.field-index
+  value = sym (ap tuple_of (values_end c.args.fields.now c.args.depth
+      (map (field_in c.args.bytes.now) c.args.found.now) c.loop-field.field-index
       (map seen c.loop-field.values.items) c.loop-field.invariant c.loop-field-test.false)
       ∙ ap (λ (ds : List Datum). Some (values.tuple (values.data_of ds))) (sym c.from_vec.ensures.value));
 }
@@ -173,7 +204,8 @@ values-returns t c = record {
 -- the message that an occurrence holds
 pub add_message-returns-in-Undefined : goal.add_message-returns-in-Undefined
 add_message-returns-in-Undefined t c = record {
-  value = one_message (fields_of (map types.seen_field c.args.fields.now)) c.args.depth c.args.bytes.now c.args.field.kind c.in-Span.field-0 c.in-Span.field-1
+  value = one_message (fields_of (map types.seen_field c.args.fields.now))
+      c.args.depth c.args.bytes.now c.args.field.kind c.in-Span.field-0 c.in-Span.field-1
       c.in_ok-value-in-Span.field-0 c.in-Span.is c.in_ok-value-in-Span.ensures.value
       ∙ ap (λ (s : Slot). option_map (λ (d : Datum). d ∷ []) (seen_slot s)) c.in-Undefined.is;
 }
@@ -182,7 +214,8 @@ pub add_message-returns-in_ok-push-in-Defined : goal.add_message-returns-in_ok-p
 add_message-returns-in_ok-push-in-Defined t c = record {
   value = (
     seen c.in-Defined.value ∷ [],
-    one_message (fields_of (map types.seen_field c.args.fields.now)) c.args.depth c.args.bytes.now c.args.field.kind c.in-Span.field-0 c.in-Span.field-1
+    one_message (fields_of (map types.seen_field c.args.fields.now))
+        c.args.depth c.args.bytes.now c.args.field.kind c.in-Span.field-0 c.in-Span.field-1
         c.in_ok-value-in-Span.field-0 c.in-Span.is c.in_ok-value-in-Span.ensures.value
         ∙ ap (λ (s : Slot). option_map (λ (d : Datum). d ∷ []) (seen_slot s)) c.in-Defined.is,
     rw c.in_ok-push-in-Defined.ensures.items (map-append seen c.args.elements.now.items _),
@@ -192,22 +225,27 @@ add_message-returns-in_ok-push-in-Defined t c = record {
 -- the messages, one after another
 pub messages-loop-field-preserved : goal.messages-loop-field-preserved
 messages-loop-field-preserved t c =
-    let one = message_each (λ payload. message_in (values_of (fields_of (map types.seen_field c.args.fields.now)) c.args.depth) c.args.depth (payload ∷ [])) in
-    from_taken one c.args.bytes.now c.args.run.now (in_all one (contents c.args.bytes.now c.args.run.now)) c.loop-field.field-index _ _ _ _
+    let one = message_each (λ payload. message_in
+    (values_of (fields_of (map types.seen_field c.args.fields.now)) c.args.depth) c.args.depth (payload ∷ [])) in
+    from_taken one c.args.bytes.now c.args.run.now (in_all one (contents c.args.bytes.now c.args.run.now))
+    c.loop-field.field-index _ _ _ _
     c.loop-field.invariant c.loop-field-test.true c.if-not-branch.false c.in_ok-add_message.ensures.value
 
 pub messages-returns-then-not-branch : goal.messages-returns-then-not-branch
 messages-returns-then-not-branch t c =
-    let value : List ℕ → Option Datum = (λ payload. message_in (values_of (fields_of (map types.seen_field c.args.fields.now)) c.args.depth) c.args.depth (payload ∷ [])) in
+    let value : List ℕ → Option Datum = (λ payload. message_in
+    (values_of (fields_of (map types.seen_field c.args.fields.now)) c.args.depth) c.args.depth (payload ∷ [])) in
     let cs = contents c.args.bytes.now c.args.run.now in
-    let none = from_left (message_each value) c.args.bytes.now c.args.run.now (in_all (message_each value) cs) c.loop-field.field-index _ _ _ _
+    let none = from_left (message_each value) c.args.bytes.now c.args.run.now (in_all (message_each value) cs)
+    c.loop-field.field-index _ _ _ _
     c.loop-field.invariant c.loop-field-test.true c.if-not-branch.true c.in_ok-add_message.ensures.value in
     record { value = sym (ap array_of (sym (messages_each value cs) ∙ none)) }
 
 pub messages-returns : goal.messages-returns
 messages-returns t c =
-    let value : List ℕ → Option Datum = (λ payload. message_in (values_of (fields_of (map types.seen_field c.args.fields.now)) c.args.depth) c.args.depth (payload ∷ [])) in
+    let value : List ℕ → Option Datum = (λ payload. message_in
+    (values_of (fields_of (map types.seen_field c.args.fields.now)) c.args.depth) c.args.depth (payload ∷ [])) in
     let cs = contents c.args.bytes.now c.args.run.now in
-    let all = from_end (message_each value) c.args.bytes.now c.args.run.now (in_all (message_each value) cs) c.loop-field.field-index _
-    c.loop-field.invariant c.loop-field-test.false in
+    let all = from_end (message_each value) c.args.bytes.now c.args.run.now (in_all (message_each value) cs)
+    c.loop-field.field-index _ c.loop-field.invariant c.loop-field-test.false in
     record { value = c.array.ensures.value ∙ sym (ap array_of (sym (messages_each value cs) ∙ all)) }

@@ -12,11 +12,13 @@ use Rattle.sz_proto.proofs.MessageLemmas.{ValuesFrom, shape_size, fields_size}
 use Rattle.sz_proto.proofs.message.+message.Given as goal
 
 abbrev pub invariant-values-loop-field : goal.invariant-values-loop-field
-invariant-values-loop-field l = ValuesFrom l.fields l.depth (map (field_in l.bytes) l.found) l.field-index (map seen l.values.items)
+invariant-values-loop-field l =
+    ValuesFrom l.fields l.depth (map (field_in l.bytes) l.found) l.field-index (map seen l.values.items)
 
 abbrev pub invariant-messages-loop-field : goal.invariant-messages-loop-field
 invariant-messages-loop-field l =
-    let one = message_each (λ payload. message_in (values_of (fields_of (map types.seen_field l.fields)) l.depth) l.depth (payload ∷ [])) in
+    let one = message_each
+    (λ payload. message_in (values_of (fields_of (map types.seen_field l.fields)) l.depth) l.depth (payload ∷ [])) in
     GoesFrom one l.bytes l.run (in_all one (contents l.bytes l.run)) l.field-index (map seen l.elements.items)
 
 abbrev pub decreases-message : goal.decreases-message

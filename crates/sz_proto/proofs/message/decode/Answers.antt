@@ -7,7 +7,8 @@ use Rattle.sz_proto.proofs.message.decode.Goals as goal
 pub returns-in-Proto : goal.returns-in-Proto
 unfolding decoded
 returns-in-Proto c = record {
-  value = rw (c.in-Proto.is, seen_proto c.in-Proto.fields) (rw (c.as_slice.ensures.value, whole_payload c.args.bytes.now) at c.message.ensures.value);
+  value = rw (c.in-Proto.is, seen_proto c.in-Proto.fields)
+      (rw (c.as_slice.ensures.value, whole_payload c.args.bytes.now) at c.message.ensures.value);
 }
 
 pub returns-in-Bool : goal.returns-in-Bool

@@ -11,7 +11,8 @@ loop-field-preserved c = λ bytes. (
     let last = to_z w64 c.loop-field.last-bits in
     ap (λ (n : ℤ). last_or n (numbers c.args.code rest)) (back ∙ c.unwrap_or-last.ensures)
     ∙ number_next c.args.code last _ rest c.number_in.result (c.number_in.ensures.value bytes)
-    ∙ sym (from_next (λ cs. last_or last (numbers c.args.code cs)) bytes c.args.run.now c.loop-field.field-index _ c.loop-field-test.true)
+    ∙ sym (from_next (λ cs. last_or last (numbers c.args.code cs)) bytes c.args.run.now c.loop-field.field-index _
+    c.loop-field-test.true)
     ∙ c.loop-field.invariant bytes)
 
 pub returns : goal.returns
@@ -19,6 +20,7 @@ returns c = record {
   value = λ bytes. (
       let last = to_z w64 c.loop-field.last-bits in
       sym (number_end c.args.code last)
-      ∙ sym (from_last (λ cs. last_or last (numbers c.args.code cs)) bytes c.args.run.now c.loop-field.field-index c.loop-field-test.false)
+      ∙ sym (from_last (λ cs. last_or last (numbers c.args.code cs)) bytes
+      c.args.run.now c.loop-field.field-index c.loop-field-test.false)
       ∙ c.loop-field.invariant bytes);
 }

@@ -6,4 +6,5 @@ use Rattle.sz_proto.proofs.singles.last_number.Given as goal
 
 abbrev pub invariant-loop-field : goal.invariant-loop-field
 invariant-loop-field l = (bytes : List ℕ)
-    → last_or l.last (numbers l.code (contents bytes (drop l.field-index l.run))) ≡ last_or (pos 0) (numbers l.code (contents bytes l.run))
+    → last_or l.last (numbers l.code (contents bytes (drop l.field-index l.run)))
+    ≡ last_or (pos 0) (numbers l.code (contents bytes l.run))

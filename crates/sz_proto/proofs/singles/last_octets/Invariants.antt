@@ -7,4 +7,5 @@ use Rattle.sz_proto.proofs.singles.last_octets.Given as goal
 
 abbrev pub invariant-loop-field : goal.invariant-loop-field
 invariant-loop-field l =
-    last_or l.last (payloads (contents l.bytes (drop l.field-index l.run))) ≡ last_or [] (payloads (contents l.bytes l.run))
+    last_or l.last (payloads (contents l.bytes (drop l.field-index l.run)))
+    ≡ last_or [] (payloads (contents l.bytes l.run))

@@ -9,5 +9,6 @@ returns c =
     let last = c.loop-field.last.now in
     record {
       value = ap (λ (p : List ℕ). Some (values.str p)) c.in_ok-new.ensures.value ∙ sym (text_end last)
-          ∙ sym (from_last (last_text_of last) c.args.bytes.now c.args.run.now c.loop-field.field-index c.loop-field-test.false) ∙ c.loop-field.invariant.1;
+          ∙ sym (from_last (last_text_of last) c.args.bytes.now c.args.run.now c.loop-field.field-index
+          c.loop-field-test.false) ∙ c.loop-field.invariant.1;
     }

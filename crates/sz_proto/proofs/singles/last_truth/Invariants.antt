@@ -5,4 +5,5 @@ use Rattle.sz_proto.specs.Found.{contents}
 use Rattle.sz_proto.proofs.singles.last_truth.Given as goal
 
 abbrev pub invariant-loop-field : goal.invariant-loop-field
-invariant-loop-field l = (bytes : List ℕ) → last_or l.last (truths (contents bytes (drop l.field-index l.run))) ≡ last_or false (truths (contents bytes l.run))
+invariant-loop-field l = (bytes : List ℕ) → last_or l.last (truths (contents bytes (drop l.field-index l.run)))
+    ≡ last_or false (truths (contents bytes l.run))

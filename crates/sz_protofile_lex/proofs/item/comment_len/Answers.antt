@@ -6,7 +6,8 @@ pub loop-at-init : goal.loop-at-init
 loop-at-init c = record { len = comment_starts c.args.text.now }
 
 pub returns-then-ends_comment-clause-value : goal.returns-then-ends_comment-clause-value
-returns-then-ends_comment-clause-value c = comment_closes c.args.text.now c.loop-at.at c.loop-at.star _ c.loop-at.invariant.len
+returns-then-ends_comment-clause-value c =
+    comment_closes c.args.text.now c.loop-at.at c.loop-at.star _ c.loop-at.invariant.len
     c.loop-at-test.true (sym c.ends_comment.ensures.value ∙ c.if-ends_comment.true)
 
 pub loop-at-preserved : goal.loop-at-preserved
@@ -16,4 +17,5 @@ loop-at-preserved c = record {
 }
 
 pub returns-clause-value : goal.returns-clause-value
-returns-clause-value c = comment_is_open c.args.text.now c.loop-at.at c.loop-at.star _ c.loop-at.invariant.len c.loop-at-test.false
+returns-clause-value c =
+    comment_is_open c.args.text.now c.loop-at.at c.loop-at.star _ c.loop-at.invariant.len c.loop-at-test.false

@@ -1,5 +1,5 @@
 use Rattle.std.proofs.Common.{◌≡◌, ◌≤◌, length}
-use Rattle.sz_protofile_rules.specs.Lookup.{found_around}
+use Rattle.sz_protofile.specs.Lookup.{found_around}
 use Rattle.sz_protofile_names.proofs.lookup.found_around.Given as goal
 
 -- what is found in those that are left is what is found in all

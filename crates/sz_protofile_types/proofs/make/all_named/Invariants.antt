@@ -6,4 +6,5 @@ use Rattle.sz_protofile_types.proofs.make.all_named.Given as goal
 
 -- the types of the messages so far
 abbrev pub invariant-loop-message : goal.invariant-loop-message
-invariant-loop-message l = l.types ≡ map (type_named (type_in (λ m. seen_found (get_by_text l.made m)))) (take l.message-index l.messages)
+invariant-loop-message l =
+    l.types ≡ map (type_named (type_in (λ m. seen_found (get_by_text l.made m)))) (take l.message-index l.messages)

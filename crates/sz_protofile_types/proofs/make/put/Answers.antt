@@ -16,8 +16,10 @@ returns-in-Some c =
     let new = c.get_mut.follows.lender w in
     record {
       ok = on_ok_weaker c.push.result
-          (λ pushed. found_put owner (get_by_text old) (get_by_text new) w (seen_found (get_by_text old owner) ++ seen_field c.args.field ∷ [])
+          (λ pushed. found_put owner (get_by_text old) (get_by_text new) w
+          (seen_found (get_by_text old owner) ++ seen_field c.args.field ∷ [])
           (pushed ∙ ap (λ o. seen_found o ++ seen_field c.args.field ∷ []) c.in-Some.ensures.value)
-          (hash_map_updates_text owner old new (Some w) ((c.get_mut.follows.holds w).3 (subst IsSome c.in-Some.ensures.value refl))))
+          (hash_map_updates_text owner old new (Some w)
+          ((c.get_mut.follows.holds w).3 (subst IsSome c.in-Some.ensures.value refl))))
           c.push.ensures.ok;
     }

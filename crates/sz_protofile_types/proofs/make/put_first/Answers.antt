@@ -13,6 +13,7 @@ returns c =
     record {
       ok = found_put c.args.owner.now old (get_by_text c.insert.new.self) c.push.new.self (seen_field c.args.field ∷ [])
           (c.in_ok-push.ensures.ok ∙ ap (λ l. l ++ seen_field c.args.field ∷ []) c.in_ok-fields.ensures.value)
-          (λ m. hash_map_updates_text (string_bytes key) c.args.made.now c.insert.new.self (Some c.push.new.self) c.in_ok-insert.ensures.updates m
+          (λ m. hash_map_updates_text (string_bytes key) c.args.made.now c.insert.new.self (Some c.push.new.self)
+          c.in_ok-insert.ensures.updates m
           ∙ ap (λ x. cond (bytes_eq x m) (Some c.push.new.self) (old m)) c.in_ok-from_str.ensures.ok);
     }

@@ -11,8 +11,10 @@ returns c =
     record {
       value = record {
         rising = IsNonDecreasingBy-from_sort (rank_of r) ordered
-            (c.in_ok-sort_by_cached_key.ensures.sorted (rank_of r) (always_returns_same _ _ _ (λ a r f k. search (rules, of_calls))));
+            (c.in_ok-sort_by_cached_key.ensures.sorted (rank_of r)
+            (always_returns_same _ _ _ (λ a r f k. search (rules, of_calls))));
         same = sort_keeps r c.args.fields.items ordered
-            (c.in_ok-sort_by_cached_key.ensures.stable (rank_of r) (always_returns_same _ _ _ (λ a r f k. search (rules, of_calls))));
+            (c.in_ok-sort_by_cached_key.ensures.stable (rank_of r)
+            (always_returns_same _ _ _ (λ a r f k. search (rules, of_calls))));
       };
     }

@@ -1,7 +1,7 @@
 use Rattle.std.proofs.Common.{List, subst}
 use Rattle.std.proofs.lemmas.Result.{IfOk-weaker}
-use Rattle.sz_protofile_rules.specs.declared.field.FieldIn.{FieldIn}
-use Rattle.sz_protofile_loops.specs.Ranks.{IsRanking}
+use Rattle.sz_protofile.specs.declared.field.FieldIn.{FieldIn}
+use Rattle.sz_protofile_types.specs.Ranks.{IsRanking}
 use Rattle.sz_protofile_types.specs.Making.{AreMadeIfFew}
 use Rattle.sz_protofile_types.proofs.FoundLemmas.{found_by}
 use Rattle.sz_protofile_types.proofs.read.types_by.Goals as goal

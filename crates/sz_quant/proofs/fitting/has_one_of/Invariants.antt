@@ -7,4 +7,5 @@ use Rattle.sz_quant.proofs.fitting.has_one_of.Given as goal
 
 abbrev pub invariant-loop-part : goal.invariant-loop-part
 invariant-loop-part l =
-    list_any (is_one_of l.variables) (map seen_ref (drop l.part-index l.parts)) ≡ list_any (is_one_of l.variables) (map seen_ref l.parts)
+    list_any (is_one_of l.variables) (map seen_ref (drop l.part-index l.parts))
+    ≡ list_any (is_one_of l.variables) (map seen_ref l.parts)

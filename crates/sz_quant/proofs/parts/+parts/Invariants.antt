@@ -10,4 +10,5 @@ invariant-add_all_parts-loop-tree l =
 
 abbrev pub invariant-add_pair_parts-loop-pair : goal.invariant-add_pair_parts-loop-pair
 invariant-add_pair_parts-loop-pair l =
-    map seen_ref l.made.items ++ pair_parts_from l.pairs l.pair-index ≡ map seen_ref l.fn.made.items ++ pair_parts_from l.pairs 0
+    map seen_ref l.made.items ++ pair_parts_from l.pairs l.pair-index ≡ map seen_ref l.fn.made.items
+    ++ pair_parts_from l.pairs 0

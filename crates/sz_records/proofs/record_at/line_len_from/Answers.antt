@@ -5,7 +5,8 @@ use Rattle.sz_records.proofs.record_at.line_len_from.Goals as goal
 
 pub returns-clause-value : goal.returns-clause-value
 returns-clause-value c =
-    ap (λ (n : ℕ). c.args.scanned + n) (c.line_len.ensures.value ∙ ap line_len c.rest.ensures) ∙ sym (scanned_on c.args.bytes.now c.args.scanned c.requires.scanned)
+    ap (λ (n : ℕ). c.args.scanned + n) (c.line_len.ensures.value ∙ ap line_len c.rest.ensures)
+    ∙ sym (scanned_on c.args.bytes.now c.args.scanned c.requires.scanned)
 
 pub returns-clause-within : goal.returns-clause-within
 returns-clause-within c =

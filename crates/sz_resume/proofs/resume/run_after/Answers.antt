@@ -1,11 +1,11 @@
 use Rattle.std.proofs.Common.{[], ◌∷◌, ◌++◌, ◌≡◌, ◌-◌, inr, IsTrue, rules, refl, sym, ap, ◌∙◌, subst, arith, append-nil, append_assoc}
 use Rattle.std.proofs.lemmas.Result.{err_from_is_err_and}
 use Rattle.sz_mean.specs.Marked.{all_tables}
-use Rattle.sz_gates.proofs.ForCallers.{falls_not_refl, falls_not_both}
-use Rattle.sz_journal_format.specs.Rounds.{last_progress}
+use Rattle.sz_disk.proofs.GateForCallers.{falls_not_refl, falls_not_both}
+use Rattle.sz_journal.specs.Rounds.{last_progress}
 use Rattle.sz_journal.specs.Journal.{rounds_of}
-use Rattle.sz_rounds.specs.Outcomes.{outcome_from}
-use Rattle.sz_rounds.specs.Rounds.{shards_of}
+use Rattle.sz_workers.specs.Outcomes.{outcome_from}
+use Rattle.sz_workers.specs.Rounds.{shards_of}
 use Rattle.sz_stream.specs.declared.stop.Stop.TheVariants as stops
 use Rattle.sz_resume.specs.declared.halt.Halt.TheVariants as halts
 use Rattle.sz_resume.specs.Halts.{of_file}

@@ -2,10 +2,10 @@ use Rattle.std.proofs.Common.{◌≡◌, ◌+◌, ◌-◌, ◌^◌, ◌<◌, ◌
 use Rattle.sz_mean.specs.Marked.{all_tables}
 use Rattle.sz_io.specs.Opened.{KeepsOtherFiles}
 use Rattle.sz_disk.specs.Crashes.{are_told}
-use Rattle.sz_gates.specs.Crashing.{Rests, LeavesOnly, DoesNotFall}
-use Rattle.sz_journal_format.specs.declared.job.JobBytes.{JobBytes}
-use Rattle.sz_journal_format.specs.declared.round.RoundEntry.{RoundEntry}
-use Rattle.sz_journal_format.specs.Rounds.{last_progress}
+use Rattle.sz_disk.specs.Crashing.{Rests, LeavesOnly, DoesNotFall}
+use Rattle.sz_journal.specs.declared.job.JobBytes.{JobBytes}
+use Rattle.sz_journal.specs.declared.round.RoundEntry.{RoundEntry}
+use Rattle.sz_journal.specs.Rounds.{last_progress}
 use Rattle.sz_journal.specs.Journal.{rounds_of, KeepsRounds}
 use Rattle.sz_resume.specs.Standing.{Stands}
 use Rattle.sz_resume.specs.Stops.{AreSmall, LeavesRounds, SpellsMore}

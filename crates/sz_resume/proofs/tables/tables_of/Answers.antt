@@ -3,7 +3,7 @@ use Rattle.std.specs.Prelude.{IfOk}
 use Rattle.sz_save.specs.Saving.{HaveSpelling}
 use Rattle.sz_total.specs.Weights.{HaveTheirWeights}
 use Rattle.sz_attempt.proofs.ForCallers.{have_their_weights}
-use Rattle.sz_journal_format.specs.Rounds.{AreRounds}
+use Rattle.sz_journal.specs.Rounds.{AreRounds}
 use Rattle.sz_resume.specs.Entries.{HoldsRounds}
 use Rattle.sz_resume.proofs.tables.tables_of.Goals as goal
 

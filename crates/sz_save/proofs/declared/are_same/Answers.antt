@@ -10,7 +10,8 @@ returns-then-not-same_decl c =
     record {
       value = (
         λ claim. absurd (true≢false (sym claim)),
-        λ alike. absurd (true≢false (sym (c.if-not-same_decl.ensures.value.1 (alike_at seen_table c.args.one.now c.args.other.now c.loop-i.i c.index-one-i.result c.index-other-i.result less
+        λ alike. absurd (true≢false (sym (c.if-not-same_decl.ensures.value.1 (alike_at seen_table
+            c.args.one.now c.args.other.now c.loop-i.i c.index-one-i.result c.index-other-i.result less
             (omega (arith, less, c.if-one-other.false)) c.index-one-i.is c.index-other-i.is alike)))),
       );
     }

@@ -6,7 +6,8 @@ use Rattle.sz_save.proofs.entries.join_entries.Given as goal
 
 abbrev pub invariant-loop-left : goal.invariant-loop-left
 invariant-loop-left l = record {
-  all : l.joined ++ joined_entries l.kind l.limit l.rest.items l.left.items ≡ joined_entries l.kind l.limit l.fn.entries l.fn.others;
+  all : l.joined ++ joined_entries l.kind l.limit l.rest.items l.left.items
+      ≡ joined_entries l.kind l.limit l.fn.entries l.fn.others;
   can : CanJoin l.kind l.rest.items l.left.items;
   few : AllByRecursion HasCountedRows l.joined;
 }

@@ -8,7 +8,8 @@ use Rattle.sz_save.proofs.heights.+low.Given as goal
 
 abbrev pub invariant-are_fields_low-loop-field : goal.invariant-are_fields_low-loop-field
 invariant-are_fields_low-loop-field l =
-    nat_le (tallest (fields_of (map seen_field (drop l.field-index l.fields)))) l.most ≡ nat_le (tallest (fields_of (map seen_field l.fields))) l.most
+    nat_le (tallest (fields_of (map seen_field (drop l.field-index l.fields)))) l.most
+    ≡ nat_le (tallest (fields_of (map seen_field l.fields))) l.most
 
 abbrev pub decreases-is_type_low : goal.decreases-is_type_low
 decreases-is_type_low l = 2 * l.most

@@ -12,8 +12,9 @@ returns c =
     let both = c.in_ok-both.both.items in
     let in_order : c.sort_by.new.self.items ≡ sorted greatest_rows both =
     stable_sort_is_sorted greatest_rows_total both c.sort_by.new.self.items
-    (c.in_ok-sort_by.ensures.sorted greatest_less greatest_ordered (always_returns_same _ _ _ (λ a r f called. search rules)))
-    (c.sort_by.ensures.stable greatest_less greatest_ordered (always_returns_same _ _ _ (λ a r f called. search rules))) in
+    (c.in_ok-sort_by.ensures.sorted greatest_less greatest_ordered
+    (always_returns_same _ _ _ (λ a r f called. search rules))) (c.sort_by.ensures.stable greatest_less
+    greatest_ordered (always_returns_same _ _ _ (λ a r f called. search rules))) in
     record {
       value = c.from_vec.ensures.value ∙ c.truncate.ensures.items
           ∙ ap (take c.args.limit) (in_order ∙ ap (sorted greatest_rows) c.in_ok-both.ensures.value);

@@ -11,13 +11,16 @@ table_shown-requires c = record {
 
 pub loop-number-preserved : goal.loop-number-preserved
 loop-number-preserved c =
-    shown_more c.args.decls.now (shown c.args.total.now) (2 ^ 63 * c.args.total.now.count) c.loop-number.number c.loop-number.tables c.push.new.self c.in_ok-rows.rows
-    (omega (arith, c.loop-number-test.true, c.len-number-end.ensures.value)) c.in_ok-rows.ensures.value c.in_ok-rows.ensures.written c.in_ok-push.ensures.ok
+    shown_more c.args.decls.now (shown c.args.total.now)
+    (2 ^ 63 * c.args.total.now.count) c.loop-number.number c.loop-number.tables c.push.new.self c.in_ok-rows.rows
+    (omega (arith, c.loop-number-test.true, c.len-number-end.ensures.value))
+    c.in_ok-rows.ensures.value c.in_ok-rows.ensures.written c.in_ok-push.ensures.ok
     c.loop-number.invariant
 
 pub returns : goal.returns
 returns c = record {
-  value = shown_end c.args.decls.now (shown c.args.total.now) (2 ^ 63 * c.args.total.now.count) c.loop-number.number c.loop-number.tables
+  value = shown_end c.args.decls.now (shown c.args.total.now)
+      (2 ^ 63 * c.args.total.now.count) c.loop-number.number c.loop-number.tables
       (omega (arith, c.loop-number-test.false, c.len-number-end.ensures.value)) c.loop-number.invariant;
   each = c.loop-number.invariant.written;
 }

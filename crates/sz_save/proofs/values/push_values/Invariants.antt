@@ -5,4 +5,5 @@ use Rattle.sz_save.specs.Joined.{values_shown}
 use Rattle.sz_save.proofs.values.push_values.Given as goal
 
 abbrev pub invariant-loop-row : goal.invariant-loop-row
-invariant-loop-row l = map seen l.values.items ≡ map seen l.initial.values.items ++ values_shown (take l.row-index l.rows)
+invariant-loop-row l =
+    map seen l.values.items ≡ map seen l.initial.values.items ++ values_shown (take l.row-index l.rows)

@@ -7,6 +7,6 @@ use Rattle.sz_save.proofs.values.sorted_values.Goals as goal
 
 pub returns : goal.returns
 returns c = record {
-  value = values_sorted c.in_ok-values.values.items c.sort.new.self.items c.in_ok-sort.ensures.sorted c.sort.ensures.stable
-      ∙ ap (sorted compare) c.in_ok-values.ensures.value;
+  value = values_sorted c.in_ok-values.values.items c.sort.new.self.items c.in_ok-sort.ensures.sorted
+      c.sort.ensures.stable ∙ ap (sorted compare) c.in_ok-values.ensures.value;
 }

@@ -6,7 +6,8 @@ use Rattle.sz_save.proofs.walk.pass_lesser.Given as goal
 
 abbrev pub invariant-loop-kept : goal.invariant-loop-kept
 invariant-loop-kept l = record {
-  goes : GoesOn l.kind l.limit (l.entry ∷ []) l.fn.walk.joined l.fn.walk.left.items (l.entry ∷ []) l.joined l.left.items;
+  goes : GoesOn l.kind l.limit (l.entry ∷ []) l.fn.walk.joined l.fn.walk.left.items (l.entry ∷ [])
+      l.joined l.left.items;
   can : CanJoin l.kind l.left.items (l.entry ∷ []);
 }
 

@@ -14,6 +14,7 @@ loop-preserved c =
     let i = c.loop.counter in
     let more = c.in_ok-entry.after.now in (
       subst (λ done. whole ≡ after done (many_at read (n - (i + 1)) more)) (sym c.in_ok-push.ensures.ok)
-          (many_goes read whole c.loop.entries c.loop.rest.now n i c.in_ok-entry.entry more c.loop-test.true c.in_ok-entry.ensures.value c.loop.invariant.0),
+          (many_goes read whole c.loop.entries c.loop.rest.now n i c.in_ok-entry.entry more
+          c.loop-test.true c.in_ok-entry.ensures.value c.loop.invariant.0),
       omega (arith, c.loop-test.true),
     )

@@ -10,7 +10,8 @@ returns-then-eq c =
       value = sym
           (ap is_some (sym c.loop-word.invariant
           ∙ found_word _ c.loop-word.word-index _ c.args.bytes.now c.loop-word-test.true
-          (ap (λ (t : List ℕ). bytes_eq t c.args.bytes.now) (sym c.text.ensures.value) ∙ sym c.eq.ensures ∙ c.if-eq.true)));
+          (ap (λ (t : List ℕ). bytes_eq t c.args.bytes.now) (sym c.text.ensures.value) ∙ sym c.eq.ensures
+          ∙ c.if-eq.true)));
     }
 
 pub loop-word-preserved : goal.loop-word-preserved

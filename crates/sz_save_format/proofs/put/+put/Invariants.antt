@@ -7,7 +7,8 @@ use Rattle.sz_save_format.specs.Fields.{field_bytes}
 use Rattle.sz_save_format.proofs.put.+put.Given as goal
 
 abbrev pub invariant-put_each_field-loop-field : goal.invariant-put_each_field-loop-field
-invariant-put_each_field-loop-field l = l.out.items ≡ l.initial.out.items ++ flat_map (field_bytes l.numbered) (map seen_field (take l.field-index l.fields))
+invariant-put_each_field-loop-field l = l.out.items
+    ≡ l.initial.out.items ++ flat_map (field_bytes l.numbered) (map seen_field (take l.field-index l.fields))
 
 abbrev pub decreases-put_type : goal.decreases-put_type
 decreases-put_type l = 4 * height (seen l.ty.now)

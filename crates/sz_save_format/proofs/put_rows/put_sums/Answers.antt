@@ -15,5 +15,6 @@ loop-sum-preserved c =
     let n = get_or sums i (pos 0) in
     let fits : FitsSigned w128 n = search rules in
     let now = c.loop-sum.out.items in
-    one_appended sum_bytes sums i n c.args.out.now.items now c.put_sum.new.out.items c.loop-sum-test.true (get_or_default sums i (pos 0) n c.loop-sum-test.true)
+    one_appended sum_bytes sums i n c.args.out.now.items now c.put_sum.new.out.items c.loop-sum-test.true
+    (get_or_default sums i (pos 0) n c.loop-sum-test.true)
     c.loop-sum.invariant (c.in_ok-put_sum.ensures.value ∙ ap (λ m. now ++ sum_bytes m) (to_z-of_z w128 n fits))

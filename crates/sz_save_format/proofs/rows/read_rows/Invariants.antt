@@ -8,5 +8,6 @@ use Rattle.sz_save_format.proofs.rows.read_rows.Given as goal
 
 abbrev pub invariant-loop : goal.invariant-loop
 invariant-loop l =
-    (many_at (row_at l.ranked (types.seen l.element)) l.count l.flat ≡ after l.rows (many_at (row_at l.ranked (types.seen l.element)) (l.count - l.counter) l.rest))
+    (many_at (row_at l.ranked (types.seen l.element)) l.count l.flat
+    ≡ after l.rows (many_at (row_at l.ranked (types.seen l.element)) (l.count - l.counter) l.rest))
     × (l.counter ≤ l.count)

@@ -14,8 +14,10 @@ loop-preserved c =
     let n = c.in_ok-count.count in
     let i = c.loop.counter in
     let more = c.in_ok-sum.after.now in
-    let pushed = c.in_ok-push.ensures.ok ∙ (λ j. c.loop.sums ++ (to_z-of_z w128 c.in_ok-sum.sum c.in_ok-sum.ensures.fits j ∷ [])) in (
+    let pushed = c.in_ok-push.ensures.ok
+    ∙ (λ j. c.loop.sums ++ (to_z-of_z w128 c.in_ok-sum.sum c.in_ok-sum.ensures.fits j ∷ [])) in (
       subst (λ done. whole ≡ after done (many_at read (n - (i + 1)) more)) (sym pushed)
-          (many_goes read whole c.loop.sums c.loop.rest.now n i c.in_ok-sum.sum more c.loop-test.true c.in_ok-sum.ensures.value c.loop.invariant.0),
+          (many_goes read whole c.loop.sums c.loop.rest.now n i c.in_ok-sum.sum more
+          c.loop-test.true c.in_ok-sum.ensures.value c.loop.invariant.0),
       omega (arith, c.loop-test.true),
     )

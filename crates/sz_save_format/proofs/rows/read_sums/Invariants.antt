@@ -6,4 +6,6 @@ use Rattle.sz_save_format.proofs.FrontLemmas.{after}
 use Rattle.sz_save_format.proofs.rows.read_sums.Given as goal
 
 abbrev pub invariant-loop : goal.invariant-loop
-invariant-loop l = (counted_at (sum_at l.most) l.flat ≡ after l.sums (many_at (sum_at l.most) (l.count - l.counter) l.rest)) × (l.counter ≤ l.count)
+invariant-loop l =
+    (counted_at (sum_at l.most) l.flat ≡ after l.sums (many_at (sum_at l.most) (l.count - l.counter) l.rest))
+    × (l.counter ≤ l.count)

@@ -24,7 +24,8 @@ loop-preserved c =
     let one_decl = ap length decls ∙ length-append ds (d ∷ []) in
     let one_table = ap length tables ∙ length-append ts (t ∷ []) in (
       subst (λ done. whole ≡ after done (many_at read (n - (i + 1)) more)) (sym together)
-          (many_goes read whole (zip ds ts) c.loop.rest.now n i (d, t) more c.loop-test.true c.in_ok-decl.ensures.value c.loop.invariant.0),
+          (many_goes read whole (zip ds ts) c.loop.rest.now n i
+          (d, t) more c.loop-test.true c.in_ok-decl.ensures.value c.loop.invariant.0),
       omega (arith, c.loop-test.true),
       omega (arith, one_decl, one_table, c.loop.invariant.2),
     )

@@ -7,5 +7,6 @@ use Rattle.sz_save_format.proofs.saved.read_tables.Given as goal
 
 abbrev pub invariant-loop : goal.invariant-loop
 invariant-loop l =
-    (counted_at (table_at l.bound) l.flat ≡ after (zip l.decls l.tables) (many_at (table_at l.bound) (l.count - l.counter) l.rest))
+    (counted_at (table_at l.bound) l.flat
+    ≡ after (zip l.decls l.tables) (many_at (table_at l.bound) (l.count - l.counter) l.rest))
     × (l.counter ≤ l.count) × (length l.tables ≡ length l.decls)

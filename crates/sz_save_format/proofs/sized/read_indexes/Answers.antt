@@ -18,8 +18,8 @@ returns-in_err-value c =
     record {
       value = rw (p.1, p.2)
           (stops_too (sized_at (shapes.seen ty) rest) whole c.in_err-value.field-0.0
-          (λ none. indexes_stop whole types c.loop-ty.values rest c.loop-ty.ty-index ty c.loop-ty-test.true c.ty-item.is none c.loop-ty.invariant)
-          c.in_err-value.ensures.value);
+          (λ none. indexes_stop whole types c.loop-ty.values rest c.loop-ty.ty-index ty
+          c.loop-ty-test.true c.ty-item.is none c.loop-ty.invariant) c.in_err-value.ensures.value);
     }
 
 pub loop-ty-preserved : goal.loop-ty-preserved
@@ -28,14 +28,16 @@ loop-ty-preserved c =
     let whole = indexes_at (map shapes.seen types) c.args.flat.now in
     let i = c.loop-ty.ty-index in
     let more = c.in_ok-value.after.now in
-    subst (λ done. whole ≡ after done (indexes_at (map shapes.seen (drop (i + 1) types)) more)) (sym c.in_ok-push.ensures.ok)
-    (indexes_go whole types c.loop-ty.values c.loop-ty.rest.now i c.ty-item.result (seen c.in_ok-value.value) more c.loop-ty-test.true c.ty-item.is
+    subst (λ done. whole ≡ after done (indexes_at (map shapes.seen (drop (i + 1) types)) more))
+    (sym c.in_ok-push.ensures.ok) (indexes_go whole types c.loop-ty.values c.loop-ty.rest.now i c.ty-item.result
+    (seen c.in_ok-value.value) more c.loop-ty-test.true c.ty-item.is
     c.in_ok-value.ensures.value c.loop-ty.invariant)
 
 pub returns : goal.returns
 returns c =
     let types = c.args.types.now in
     record {
-      value = indexes_end (indexes_at (map shapes.seen types) c.args.flat.now) types c.loop-ty.values c.loop-ty.rest.now c.loop-ty.ty-index c.loop-ty-test.false
+      value = indexes_end (indexes_at (map shapes.seen types) c.args.flat.now) types
+          c.loop-ty.values c.loop-ty.rest.now c.loop-ty.ty-index c.loop-ty-test.false
           c.loop-ty.invariant;
     }

@@ -22,7 +22,8 @@ read_type-returns-in_err-kind t c =
     record {
       value = rw (p.1, p.2)
           (stops_too (byte_at flat) (type_at levels flat) c.in_err-kind.field-0.0
-          (λ none. type_at_more levels flat (omega (arith, c.if-levels-eq0.false)) ∙ ap (λ o. and_then o (picked (type_cases (type_at (levels - 1))))) none)
+          (λ none. type_at_more levels flat (omega (arith, c.if-levels-eq0.false))
+          ∙ ap (λ o. and_then o (picked (type_cases (type_at (levels - 1))))) none)
           c.in_err-kind.ensures.value);
     }
 
@@ -32,7 +33,8 @@ read_type-returns t c =
     let levels = c.args.levels in
     record {
       value = subst (λ found. Reads (λ (r : Ty × Bor (List ℕ)). (seen r.0, r.1.now)) found c.read_type_of.result)
-          (sym (type_at_more levels flat (omega (arith, c.if-levels-eq0.false)) ∙ ap (λ o. and_then o (picked (type_cases (type_at (levels - 1))))) c.in_ok-kind.ensures.value))
+          (sym (type_at_more levels flat (omega (arith, c.if-levels-eq0.false))
+          ∙ ap (λ o. and_then o (picked (type_cases (type_at (levels - 1))))) c.in_ok-kind.ensures.value))
           c.read_type_of.ensures.value;
     }
 
@@ -43,9 +45,10 @@ read_fields-loop-preserved t c =
     let n = c.in_ok-count.count in
     let i = c.loop.counter in
     let more = c.in_ok-field.after.now in
-    let pushed = ap (map seen_field) c.in_ok-push.ensures.items ∙ map-append seen_field c.loop.fields.items (c.in_ok-field.field ∷ []) in (
+    let pushed = ap (map seen_field) c.in_ok-push.ensures.items
+    ∙ map-append seen_field c.loop.fields.items (c.in_ok-field.field ∷ []) in (
       subst (λ done. whole ≡ after done (many_at read (n - (i + 1)) more)) (sym pushed)
-          (many_goes read whole (map seen_field c.loop.fields.items) c.loop.rest.now n i (seen_field c.in_ok-field.field) more c.loop-test.true
-          c.in_ok-field.ensures.value c.loop.invariant.0),
+          (many_goes read whole (map seen_field c.loop.fields.items) c.loop.rest.now n i
+          (seen_field c.in_ok-field.field) more c.loop-test.true c.in_ok-field.ensures.value c.loop.invariant.0),
       omega (arith, c.loop-test.true),
     )

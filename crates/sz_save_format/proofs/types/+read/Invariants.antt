@@ -8,7 +8,8 @@ use Rattle.sz_save_format.proofs.types.+read.Given as goal
 abbrev pub invariant-read_fields-loop : goal.invariant-read_fields-loop
 invariant-read_fields-loop l =
     (fields_at l.numbered (type_at l.levels) l.flat
-    ≡ after (map seen_field l.fields.items) (many_at (field_at l.numbered (type_at l.levels)) (l.count - l.counter) l.rest))
+    ≡ after (map seen_field l.fields.items)
+    (many_at (field_at l.numbered (type_at l.levels)) (l.count - l.counter) l.rest))
     × (l.counter ≤ l.count)
 
 abbrev pub decreases-read_type : goal.decreases-read_type

@@ -12,7 +12,8 @@ loop-preserved c =
     let i = c.loop.counter in
     let more = c.in_ok-ty.after.now in (
       subst (λ done. whole ≡ after done (many_at saved_type_at (n - (i + 1)) more)) (sym c.in_ok-push.ensures.ok)
-          (many_goes saved_type_at whole c.loop.types c.loop.rest.now n i (seen c.in_ok-ty.ty) more c.loop-test.true c.in_ok-ty.ensures.value
+          (many_goes saved_type_at whole c.loop.types c.loop.rest.now n i
+          (seen c.in_ok-ty.ty) more c.loop-test.true c.in_ok-ty.ensures.value
           c.loop.invariant.0),
       omega (arith, c.loop-test.true),
     )

@@ -11,13 +11,15 @@ use Rattle.sz_save_format.proofs.values.+read.Given as goal
 
 abbrev pub invariant-read_elements-loop : goal.invariant-read_elements-loop
 invariant-read_elements-loop l =
-    (counted_at (value_at (types.seen l.element)) l.flat ≡ after l.values (many_at (value_at (types.seen l.element)) (l.count - l.counter) l.rest))
+    (counted_at (value_at (types.seen l.element)) l.flat
+    ≡ after l.values (many_at (value_at (types.seen l.element)) (l.count - l.counter) l.rest))
     × (l.counter ≤ l.count)
 
 abbrev pub invariant-read_pairs-loop : goal.invariant-read_pairs-loop
 invariant-read_pairs-loop l =
     (counted_at (pair_at (value_at (types.seen l.key)) (value_at (types.seen l.value))) l.flat
-    ≡ after (seen_pairs l.pairs.items) (many_at (pair_at (value_at (types.seen l.key)) (value_at (types.seen l.value))) (l.count - l.counter) l.rest))
+    ≡ after (seen_pairs l.pairs.items)
+    (many_at (pair_at (value_at (types.seen l.key)) (value_at (types.seen l.value))) (l.count - l.counter) l.rest))
     × (l.counter ≤ l.count)
 
 abbrev pub invariant-read_parts-loop-field : goal.invariant-read_parts-loop-field

@@ -7,5 +7,6 @@ use Rattle.sz_save_format.proofs.values.keys_rise.Goals as goal
 
 pub returns : goal.returns
 returns c = record {
-  value = sym (seen_order_ends key_may_follow seen_pair c.args.pairs.now c.loop-i.i (omega arith) c.loop-i-test.false c.loop-i.invariant);
+  value = sym (seen_order_ends key_may_follow seen_pair c.args.pairs.now c.loop-i.i (omega arith)
+      c.loop-i-test.false c.loop-i.invariant);
 }

@@ -9,13 +9,13 @@ returns-in_ok-new-in-Ok c =
     let rest = c.in_ok-string.rest.now in
     let same = c.in_ok-new-in-Ok.ensures.value ∙ c.in-Ok.ensures.cases.0 in
     record {
-      value = text_read c.args.flat.now c.in_ok-rest.rest.now c.in_ok-string.string.now rest c.in_ok-rest.ensures.value c.in_ok-string.ensures.value
-          c.in-Ok.ensures.cases.1
+      value = text_read c.args.flat.now c.in_ok-rest.rest.now c.in_ok-string.string.now rest
+          c.in_ok-rest.ensures.value c.in_ok-string.ensures.value c.in-Ok.ensures.cases.1
           ∙ (λ i. Some (str (sym same i), rest));
     }
 
 pub returns-in-Err : goal.returns-in-Err
 returns-in-Err c = record {
-  value = text_refused c.args.flat.now c.in_ok-rest.rest.now c.in_ok-string.string.now c.in_ok-string.rest.now c.in_ok-rest.ensures.value
-      c.in_ok-string.ensures.value c.in-Err.ensures.cases.0;
+  value = text_refused c.args.flat.now c.in_ok-rest.rest.now c.in_ok-string.string.now c.in_ok-string.rest.now
+      c.in_ok-rest.ensures.value c.in_ok-string.ensures.value c.in-Err.ensures.cases.0;
 }

@@ -12,13 +12,18 @@ loop-i-preserved c =
     let i = c.loop-i.i in
     let long = length-map decls seen_table in
     let less = c.loop-i-test.true in
-    table_appended (map seen_table decls) tables i (seen_table c.index-decls-i.result) c.index-tables-i.result c.args.out.now.items c.loop-i.out.items
+    table_appended (map seen_table decls) tables i
+    (seen_table c.index-decls-i.result) c.index-tables-i.result c.args.out.now.items c.loop-i.out.items
     c.put_table.new.out.items (omega (arith, less, long)) (omega (arith, less, c.requires.as_many))
-    (seen_at seen_table decls i c.index-decls-i.result c.index-decls-i.is) c.index-tables-i.is c.loop-i.invariant c.in_ok-put_table.ensures.value
+    (seen_at seen_table decls i c.index-decls-i.result c.index-decls-i.is)
+    c.index-tables-i.is c.loop-i.invariant c.in_ok-put_table.ensures.value
 
 pub returns : goal.returns
 returns c =
     let decls = c.args.decls.now in
     let long = length-map decls seen_table in
     let last = c.loop-i-test.false in
-    record { value = tables_end (map seen_table decls) c.args.tables.now c.loop-i.i c.args.out.now.items c.loop-i.out.items (omega (arith, last, long)) c.loop-i.invariant }
+    record {
+      value = tables_end (map seen_table decls) c.args.tables.now c.loop-i.i c.args.out.now.items c.loop-i.out.items
+          (omega (arith, last, long)) c.loop-i.invariant;
+    }

@@ -5,4 +5,5 @@ use Rattle.sz_save_format.specs.Saved.{table_bytes}
 use Rattle.sz_save_format.proofs.writing.put_tables.Given as goal
 
 abbrev pub invariant-loop-i : goal.invariant-loop-i
-invariant-loop-i l = l.out.items ≡ l.initial.out.items ++ flat_map table_bytes (take l.i (zip (map seen_table l.decls) l.tables))
+invariant-loop-i l =
+    l.out.items ≡ l.initial.out.items ++ flat_map table_bytes (take l.i (zip (map seen_table l.decls) l.tables))

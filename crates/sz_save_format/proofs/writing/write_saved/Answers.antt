@@ -16,7 +16,8 @@ put_tables-requires-clause-as_many c =
 
 pub put_tables-requires-clause-short : goal.put_tables-requires-clause-short
 put_tables-requires-clause-short c =
-    subst (All (All HasShortEntry)) (sym (c.as_slice-2.ensures.value ∙ c.tables.ensures.value)) (saved_short c.args.saved.now c.bound.ensures.can)
+    subst (All (All HasShortEntry)) (sym (c.as_slice-2.ensures.value ∙ c.tables.ensures.value))
+    (saved_short c.args.saved.now c.bound.ensures.can)
 
 pub returns : goal.returns
 returns c =
@@ -31,10 +32,13 @@ returns c =
         is =
             c.from_vec.ensures.value ∙ c.in_ok-put_tables.ensures.value
             ∙ ap (λ l. l ++ flat_map table_bytes (zip (map seen_table c.as_slice.result.now) c.as_slice-2.result.now))
-            (c.in_ok-put_length.ensures.value ∙ ap (λ l. l ++ length_bytes c.len.result) (c.in_ok-put_count.ensures.value
+            (c.in_ok-put_length.ensures.value
+            ∙ ap (λ l. l ++ length_bytes c.len.result) (c.in_ok-put_count.ensures.value
             ∙ ap (λ l. l ++ count_bytes c.bound.result) c.in_ok-extend_from_slice.ensures.items))
-            ∙ (λ i. (((c.new-out.ensures.items i ++ mark) ++ count_bytes (c.bound.ensures.value i)) ++ length_bytes (counted i)) ++ flat_map table_bytes (zip (decls i) (tables i)))
-            ∙ append_assoc (mark ++ count_bytes saved.bound) (length_bytes (length saved.decls)) (flat_map table_bytes (zip saved.decls saved.tables))
+            ∙ (λ i. (((c.new-out.ensures.items i ++ mark) ++ count_bytes (c.bound.ensures.value i))
+            ++ length_bytes (counted i)) ++ flat_map table_bytes (zip (decls i) (tables i)))
+            ∙ append_assoc (mark ++ count_bytes saved.bound) (length_bytes (length saved.decls))
+            (flat_map table_bytes (zip saved.decls saved.tables))
             ∙ append_assoc mark (count_bytes saved.bound) behind;
       };
     }

@@ -11,6 +11,7 @@ is_at_depth-requires c = record {
 
 pub returns : goal.returns
 returns c = record {
-  value = λ names name p sound. twice_is names name c.args.newest.now c.args.entries.now c.args.depth sound c.newest_of.result c.is_at_depth.result
-      c.is_at_depth.ensures.some c.is_at_depth.ensures.none c.args.known p c.newest_of.ensures.some c.newest_of.ensures.none;
+  value = λ names name p sound. twice_is names name c.args.newest.now c.args.entries.now c.args.depth sound
+      c.newest_of.result c.is_at_depth.result c.is_at_depth.ensures.some c.is_at_depth.ensures.none c.args.known p
+      c.newest_of.ensures.some c.newest_of.ensures.none;
 }

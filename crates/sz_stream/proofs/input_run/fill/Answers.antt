@@ -9,16 +9,19 @@ use Rattle.sz_stream.proofs.input_run.fill.Goals as goal
 -- shards can be closed
 pub wants_piece-requires-clause-within : goal.wants_piece-requires-clause-within
 wants_piece-requires-clause-within g c =
-    let r = c.loop-intake.invariant.can_read in closed_within r.done r.job r.frame r.most c.loop-intake.intake r.emits r.read r.over r.running
+    let r = c.loop-intake.invariant.can_read in
+    closed_within r.done r.job r.frame r.most c.loop-intake.intake r.emits r.read r.over r.running
 
 pub wants_piece-requires-clause-few : goal.wants_piece-requires-clause-few
 wants_piece-requires-clause-few g c =
-    let r = c.loop-intake.invariant.can_read in few_left r.done r.job r.frame r.most c.loop-intake.intake r.emits r.read r.over r.running
+    let r = c.loop-intake.invariant.can_read in
+    few_left r.done r.job r.frame r.most c.loop-intake.intake r.emits r.read r.over r.running
 
 -- a piece can be read
 pub read_piece-requires-clause-can_read : goal.read_piece-requires-clause-can_read
 read_piece-requires-clause-can_read g c =
-    can_closed c.loop-intake.intake c.wants_piece.new.self c.in_ok-wants_piece.ensures.closed c.loop-intake.invariant.can_read
+    can_closed
+    c.loop-intake.intake c.wants_piece.new.self c.in_ok-wants_piece.ensures.closed c.loop-intake.invariant.can_read
 
 -- a piece was read
 pub loop-intake-preserved : goal.loop-intake-preserved
@@ -31,26 +34,31 @@ loop-intake-preserved g c =
     let closed = fills_closed first c.loop-intake.intake mid (files.left c.args.files.now file) left
     c.in_ok-wants_piece.ensures.closed c.loop-intake.invariant.fills in
     let long : length c.loop-intake.buffer ≡ length c.args.buffer.now = search rules in
-    let reads = subst (λ room. ReadsPiece room mid c.read_piece.new.intake left (files.left c.read_piece.new.files file)) long c.in_ok-read_piece.ensures.ok in
+    let reads = subst (λ room. ReadsPiece room mid c.read_piece.new.intake left
+    (files.left c.read_piece.new.files file)) long c.in_ok-read_piece.ensures.ok in
     let same = c.in_ok-wants_piece.ensures.closed.first ∙ c.loop-intake.invariant.first in
     record {
       given = subst IsTrue (sym (c.read_piece.ensures.kept.given_same file)) c.loop-intake.invariant.given;
       can_read = reads.can_read;
-      fills = fills_more (length c.args.buffer.now) first mid c.read_piece.new.intake (files.left c.args.files.now file) left
-          (files.left c.read_piece.new.files file) closed reads;
-      wanted = inr (reads_no_more (length c.args.buffer.now) first mid c.read_piece.new.intake (files.left c.args.files.now file) left
-          (files.left c.read_piece.new.files file) closed same (subst (IsAnswered mid) c.if-branch.true c.in_ok-wants_piece.ensures.answer) reads);
+      fills = fills_more (length c.args.buffer.now) first mid c.read_piece.new.intake
+          (files.left c.args.files.now file) left (files.left c.read_piece.new.files file) closed reads;
+      wanted = inr (reads_no_more (length c.args.buffer.now) first mid c.read_piece.new.intake
+          (files.left c.args.files.now file) left (files.left c.read_piece.new.files file) closed same
+          (subst (IsAnswered mid) c.if-branch.true c.in_ok-wants_piece.ensures.answer) reads);
       first = c.read_piece.ensures.first ∙ same;
       first_shard =
-          c.read_piece.ensures.first_shard ∙ c.in_ok-wants_piece.ensures.closed.first_shard ∙ c.loop-intake.invariant.first_shard;
-      kept = keeps_on files.held files.left files.given files.names files.faults file c.args.files.now c.loop-intake.files c.read_piece.new.files
+          c.read_piece.ensures.first_shard ∙ c.in_ok-wants_piece.ensures.closed.first_shard
+          ∙ c.loop-intake.invariant.first_shard;
+      kept = keeps_on files.held files.left files.given files.names files.faults file
+          c.args.files.now c.loop-intake.files c.read_piece.new.files
           c.loop-intake.invariant.kept c.read_piece.ensures.kept;
     }
 
 -- all that was read was taken in
 pub returns-clause-ok : goal.returns-clause-ok
 returns-clause-ok g c =
-    fills_closed c.args.intake.now c.loop-intake.intake c.wants_piece.new.self (g.F.Files.left c.args.files.now c.args.file)
+    fills_closed c.args.intake.now c.loop-intake.intake c.wants_piece.new.self
+    (g.F.Files.left c.args.files.now c.args.file)
     (g.F.Files.left c.loop-intake.files c.args.file) c.in_ok-wants_piece.ensures.closed c.loop-intake.invariant.fills
 
 -- and no more has to be read
@@ -65,14 +73,17 @@ returns-clause-fits g c = c.in_ok-wants_piece.ensures.closed.fits c.loop-intake.
 pub returns-clause-ready : goal.returns-clause-ready
 returns-clause-ready g c =
     let new = c.wants_piece.new.self in
-    is_ready new (can_closed c.loop-intake.intake new c.in_ok-wants_piece.ensures.closed c.loop-intake.invariant.can_read)
+    is_ready new
+    (can_closed c.loop-intake.intake new c.in_ok-wants_piece.ensures.closed c.loop-intake.invariant.can_read)
     (subst (IsAnswered new) c.if-branch.false c.in_ok-wants_piece.ensures.answer)
 
 -- each piece was wanted
 pub returns-clause-wanted : goal.returns-clause-wanted
 returns-clause-wanted g c =
-    no_more_closed c.args.files.now c.loop-intake.files (length c.args.buffer.now) c.args.intake.now c.loop-intake.intake c.wants_piece.new.self
-    (g.F.Files.left c.args.files.now c.args.file) (g.F.Files.left c.loop-intake.files c.args.file) c.in_ok-wants_piece.ensures.closed
+    no_more_closed c.args.files.now c.loop-intake.files (length c.args.buffer.now)
+    c.args.intake.now c.loop-intake.intake c.wants_piece.new.self
+    (g.F.Files.left c.args.files.now c.args.file)
+    (g.F.Files.left c.loop-intake.files c.args.file) c.in_ok-wants_piece.ensures.closed
     c.loop-intake.invariant.wanted
 
 -- where the records at hand begin

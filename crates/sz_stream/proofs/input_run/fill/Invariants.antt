@@ -10,10 +10,12 @@ invariant-loop-intake g l = record {
   can_read : CanRead l.intake;
   fills : Fills l.fn.intake l.intake (g.F.Files.left l.fn.files l.file) (g.F.Files.left l.files l.file);
   wanted : (l.files ≡ l.fn.files)
-      ⊎ ReadsNoMore (length l.fn.buffer) l.fn.intake l.intake (g.F.Files.left l.fn.files l.file) (g.F.Files.left l.files l.file);
+      ⊎ ReadsNoMore (length l.fn.buffer) l.fn.intake l.intake (g.F.Files.left l.fn.files l.file)
+      (g.F.Files.left l.files l.file);
   first : l.intake.first ≡ l.fn.intake.first;
   first_shard : l.intake.round.first_shard ≡ l.fn.intake.round.first_shard;
-  kept : KeepsOtherFiles g.F.Files.held g.F.Files.left g.F.Files.given g.F.Files.names g.F.Files.faults l.file l.fn.files l.files;
+  kept : KeepsOtherFiles
+      g.F.Files.held g.F.Files.left g.F.Files.given g.F.Files.names g.F.Files.faults l.file l.fn.files l.files;
 }
 
 -- how many bytes may still be read

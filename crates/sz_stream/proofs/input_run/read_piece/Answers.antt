@@ -10,5 +10,6 @@ returns-in_ok-take-in-Ok-clause-ok g c =
     let after = g.F.Files.left c.read.new.self c.args.file in
     let long : length c.read.new.into ≡ length c.args.buffer.now = search rules in
     subst (λ room. ReadsPiece room c.args.intake.now c.take.new.self left after) long
-    (reads_piece c.args.intake.now c.take.new.self c.read.new.into c.in-Ok.count left after c.requires.can_read c.requires.more c.in-Ok.ensures.within
+    (reads_piece c.args.intake.now c.take.new.self c.read.new.into c.in-Ok.count left after
+    c.requires.can_read c.requires.more c.in-Ok.ensures.within
     (search rules) c.in-Ok.ensures.bytes c.in_ok-take-in-Ok.ensures.taken c.take.ensures.kept)

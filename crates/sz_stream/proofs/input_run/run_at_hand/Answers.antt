@@ -1,5 +1,5 @@
 use Rattle.std.proofs.Common.{◌<◌, ◌^◌, arith, rules, subst}
-use Rattle.sz_rounds.specs.Rounds.{EndsRound, shards_of}
+use Rattle.sz_workers.specs.Rounds.{EndsRound, shards_of}
 use Rattle.sz_stream.proofs.PassedLemmas.{few_passed}
 use Rattle.sz_stream.proofs.input_run.run_at_hand.Goals as goal
 

@@ -19,7 +19,10 @@ behind-intake-requires g c = record { done = can_begin }
 -- the tables of a sound program have their weights
 pub new-requires : goal.new-requires
 new-requires g c =
-    record { weights = subst HaveTheirWeights (sym c.tables.ensures.value) (have_their_weights c.args.job.now.compiled c.requires.job.sound) }
+    record {
+      weights = subst HaveTheirWeights (sym c.tables.ensures.value)
+          (have_their_weights c.args.job.now.compiled c.requires.job.sound);
+    }
 
 -- nothing was read
 pub take_all-requires : goal.take_all-requires
@@ -31,10 +34,15 @@ loop-total-init g c =
     let job = c.args.job.now in
     let s = c.args.settings.now in
     let total = c.in_ok-total.total in
-    let new = subst (λ ts. IsNew declarations emit_count shown ts total) c.tables.ensures.value c.in_ok-total.ensures.empty in
-    let running = starts nothing job s.frame s.shard c.behind-intake.result c.requires.shard can_begin (omega arith) c.behind-intake.ensures.empty in
+    let new =
+    subst (λ ts. IsNew declarations emit_count shown ts total) c.tables.ensures.value c.in_ok-total.ensures.empty in
+    let running = starts nothing job s.frame s.shard c.behind-intake.result c.requires.shard can_begin
+    (omega arith) c.behind-intake.ensures.empty in
     let all = c.in_ok-take_all.ensures.ok nothing job s.frame s.shard [] running in
-    record { gathered = record { emits = []; stand = none_stand job total new; reached = all.reached }; known = all.known }
+    record {
+      gathered = record { emits = []; stand = none_stand job total new; reached = all.reached };
+      known = all.known;
+    }
 
 -- shards can be closed
 pub wants_piece-requires-clause-within : goal.wants_piece-requires-clause-within
@@ -58,7 +66,8 @@ records_run-requires g c =
     let s = c.args.settings.now in
     let bytes = c.args.bytes.now in
     let new = c.wants_piece.new.self in
-    let gathered = gathers_closed nothing job s.frame s.shard c.loop-total.total c.loop-total.intake new (Some bytes) (Some [])
+    let gathered =
+    gathers_closed nothing job s.frame s.shard c.loop-total.total c.loop-total.intake new (Some bytes) (Some [])
     c.loop-total.invariant.gathered c.in_ok-wants_piece.ensures.closed in
     record { begun = first_some nothing job s.frame s.shard gathered.emits new (Some bytes) (Some []) gathered.reached }
 
@@ -73,11 +82,14 @@ returns-in-Some-clause-value g c =
     let closed = c.in_ok-wants_piece.ensures.closed in
     let gathered = gathers_closed nothing job s.frame s.shard total c.loop-total.intake new (Some bytes) (Some [])
     c.loop-total.invariant.gathered closed in
-    let ready = ready_known new (can_still nothing job s.frame s.shard gathered.emits new (Some bytes) (Some []) gathered.reached)
-    c.in_ok-wants_piece.field-0 (ap is_some closed.ending ∙ c.loop-total.invariant.known) c.in_ok-wants_piece.ensures.answer in
+    let ready =
+    ready_known new (can_still nothing job s.frame s.shard gathered.emits new (Some bytes) (Some []) gathered.reached)
+    c.in_ok-wants_piece.field-0 (ap is_some closed.ending ∙ c.loop-total.invariant.known)
+    c.in_ok-wants_piece.ensures.answer in
     subst (RunsInput job s.shard s.frame bytes) (sym c.ended.ensures.value)
-    (subst (λ n. RunsInput job s.shard s.frame bytes (ended_so total n c.in-Some.ending)) (sym c.records_run.ensures.value)
-    (input_ends job s.frame s.shard new (Some bytes) (Some []) total gathered ready c.in-Some.ending (sym c.end.ensures.value ∙ c.in-Some.is) bytes
+    (subst (λ n. RunsInput job s.shard s.frame bytes (ended_so total n c.in-Some.ending))
+    (sym c.records_run.ensures.value) (input_ends job s.frame s.shard new (Some bytes)
+    (Some []) total gathered ready c.in-Some.ending (sym c.end.ensures.value ∙ c.in-Some.is) bytes
     (all_read nothing job s.frame s.shard gathered.emits new bytes gathered.reached)))
 
 -- the next ones can be run
@@ -88,10 +100,13 @@ run_next-requires-clause-can_run g c κs within =
     let bytes = c.args.bytes.now in
     let new = c.wants_piece.new.self in
     let closed = c.in_ok-wants_piece.ensures.closed in
-    let gathered = gathers_closed nothing job s.frame s.shard c.loop-total.total c.loop-total.intake new (Some bytes) (Some [])
+    let gathered =
+    gathers_closed nothing job s.frame s.shard c.loop-total.total c.loop-total.intake new (Some bytes) (Some [])
     c.loop-total.invariant.gathered closed in
-    let ready = ready_known new (can_still nothing job s.frame s.shard gathered.emits new (Some bytes) (Some []) gathered.reached)
-    c.in_ok-wants_piece.field-0 (ap is_some closed.ending ∙ c.loop-total.invariant.known) c.in_ok-wants_piece.ensures.answer in
+    let ready =
+    ready_known new (can_still nothing job s.frame s.shard gathered.emits new (Some bytes) (Some []) gathered.reached)
+    c.in_ok-wants_piece.field-0 (ap is_some closed.ending ∙ c.loop-total.invariant.known)
+    c.in_ok-wants_piece.ensures.answer in
     record {
       emits = gathered.emits;
       stand = gathered.stand;
@@ -105,7 +120,8 @@ loop-total-smaller g c =
     let s = c.args.settings.now in
     let gathered = c.loop-total.invariant.gathered in
     let r = gathered.reached in
-    let few = few_left nothing c.args.job.now s.frame s.shard c.loop-total.intake gathered.emits r.read r.over r.running in
+    let few =
+    few_left nothing c.args.job.now s.frame s.shard c.loop-total.intake gathered.emits r.read r.over r.running in
     let first = c.in_ok-wants_piece.ensures.closed.first in
     let further = c.in_ok-run_next.ensures.ok.further in
     omega (arith, few, first, further)
@@ -118,7 +134,8 @@ loop-total-preserved g c =
     let bytes = c.args.bytes.now in
     let closed = c.in_ok-wants_piece.ensures.closed in
     let ok = c.in_ok-run_next.ensures.ok in
-    let gathered = gathers_closed nothing job s.frame s.shard c.loop-total.total c.loop-total.intake c.wants_piece.new.self (Some bytes) (Some [])
+    let gathered = gathers_closed nothing job
+    s.frame s.shard c.loop-total.total c.loop-total.intake c.wants_piece.new.self (Some bytes) (Some [])
     c.loop-total.invariant.gathered closed in
     record {
       gathered = ok.goes_on nothing s.frame s.shard (Some bytes) (Some []) gathered;
@@ -133,9 +150,11 @@ returns-in_err-run_next-clause-value g c =
     let s = c.args.settings.now in
     let bytes = c.args.bytes.now in
     let new = c.wants_piece.new.self in
-    let gathered = gathers_closed nothing job s.frame s.shard c.loop-total.total c.loop-total.intake new (Some bytes) (Some [])
+    let gathered =
+    gathers_closed nothing job s.frame s.shard c.loop-total.total c.loop-total.intake new (Some bytes) (Some [])
     c.loop-total.invariant.gathered c.in_ok-wants_piece.ensures.closed in
     let r = gathered.reached in
     rw (p.1, p.2)
-    (round_stops nothing job s.frame s.shard new gathered.emits r.read r.over r.running c.in_err-run_next.field-0.0 c.in_err-run_next.ensures.err bytes
+    (round_stops nothing job s.frame s.shard new
+    gathered.emits r.read r.over r.running c.in_err-run_next.field-0.0 c.in_err-run_next.ensures.err bytes
     (all_read nothing job s.frame s.shard gathered.emits new bytes r))

@@ -9,8 +9,10 @@ abbrev pub invariant-loop-total : goal.invariant-loop-total
 invariant-loop-total g l = record {
   given : IsTrue (g.F.Files.given l.files l.file);
   room : 0 < vec_len l.buffer;
-  gathered : Gathers nothing l.job l.settings.frame l.settings.shard l.intake l.total (g.F.Files.left l.fn.files l.file) (g.F.Files.left l.files l.file);
-  kept : KeepsOtherFiles g.F.Files.held g.F.Files.left g.F.Files.given g.F.Files.names g.F.Files.faults l.file l.fn.files l.files;
+  gathered : Gathers nothing l.job l.settings.frame l.settings.shard l.intake l.total
+      (g.F.Files.left l.fn.files l.file) (g.F.Files.left l.files l.file);
+  kept : KeepsOtherFiles
+      g.F.Files.held g.F.Files.left g.F.Files.given g.F.Files.names g.F.Files.faults l.file l.fn.files l.files;
 }
 
 -- how many records there may still be

@@ -17,8 +17,8 @@ merge-requires-clause-room g c κs within =
     let can = c.requires.can_run in
     let r = can.has_round in
     let gives = c.in_ok-part.ensures.value in
-    has_room r.done c.args.job.now r.frame r.most c.args.intake.now can.emits r.read r.over r.running gives.0 c.in_ok-part.passed gives.1
-    c.args.total.now c.in_ok-part.part can.stand gives.2 c.requires.job
+    has_room r.done c.args.job.now r.frame r.most c.args.intake.now can.emits r.read r.over r.running gives.0
+    c.in_ok-part.passed gives.1 c.args.total.now c.in_ok-part.part can.stand gives.2 c.requires.job
 
 -- it has a place after it
 pub move_on-requires-clause-within : goal.move_on-requires-clause-within
@@ -45,5 +45,5 @@ returns-clause-ok g c =
     let job = c.args.job.now in
     let gives = c.in_ok-part.ensures.value in
     subst (λ new. RunsRound job c.args.intake.now new c.args.total.now c.merge.new.total) (sym c.move_on.ensures.value)
-    (runs_round job c.args.intake.now c.args.total.now c.in_ok-part.part c.merge.new.total gives.0 c.in_ok-part.passed c.requires.can_run gives.1 gives.2
-    c.in_ok-merge.ensures.ok)
+    (runs_round job c.args.intake.now c.args.total.now c.in_ok-part.part c.merge.new.total gives.0 c.in_ok-part.passed
+    c.requires.can_run gives.1 gives.2 c.in_ok-merge.ensures.ok)

@@ -5,4 +5,5 @@ use Rattle.sz_tables_tests.proofs.large.filled.Given as goal
 
 abbrev pub invariant-loop-at : goal.invariant-loop-at
 invariant-loop-at g l =
-    (g.A.Aggregator.declaration l.aggregate ≡ seen_table l.table) × (g.A.Aggregator.count l.aggregate ≤ g.A.Aggregator.count l.fn.aggregate + l.at)
+    (g.A.Aggregator.declaration l.aggregate ≡ seen_table l.table)
+    × (g.A.Aggregator.count l.aggregate ≤ g.A.Aggregator.count l.fn.aggregate + l.at)

@@ -7,20 +7,24 @@ use Rattle.sz_tabs.proofs.adding.add_at.Goals as goal
 pub more-requires-clause-within : goal.more-requires-clause-within
 more-requires-clause-within c =
     let there : c.args.at < length c.args.sums.now.items = search rules in
-    let within = within_there (2 ^ 126 + 2 ^ 63) c.args.sums.now.items c.args.at c.index.result.now there c.index.ensures c.requires.within in
+    let within = within_there (2 ^ 126 + 2 ^ 63) c.args.sums.now.items c.args.at c.index.result.now there
+    c.index.ensures c.requires.within in
     subst (IsWithin (2 ^ 126 + 2 ^ 63)) (sym (passed (2 ^ 126 + 2 ^ 63) c.index.result.now (omega arith) within)) within
 
 pub returns-then-at-len : goal.returns-then-at-len
 returns-then-at-len c =
     let there : c.args.at < length c.args.sums.now.items = search rules in
-    let within = within_there (2 ^ 126 + 2 ^ 63) c.args.sums.now.items c.args.at c.index.result.now there c.index.ensures c.requires.within in
+    let within = within_there (2 ^ 126 + 2 ^ 63) c.args.sums.now.items c.args.at c.index.result.now there
+    c.index.ensures c.requires.within in
     let sum = passed (2 ^ 126 + 2 ^ 63) c.index.result.now (omega arith) within in
     let number = passed (2 ^ 63) c.args.number (omega arith) c.requires.fits in
     let more : c.more.result ≡ c.index.result.now +ℤ c.args.number = c.more.ensures.value ∙ (λ i. sum i +ℤ number i) in
-    let sum_is_within = sum_within (2 ^ 126 + 2 ^ 63) (2 ^ 63) c.index.result.now c.args.number within c.requires.fits in
+    let sum_is_within =
+    sum_within (2 ^ 126 + 2 ^ 63) (2 ^ 63) c.index.result.now c.args.number within c.requires.fits in
     let more_within = subst (IsWithin (2 ^ 126 + 2 ^ 63 + 2 ^ 63)) (sym more) sum_is_within in
     let written = passed (2 ^ 126 + 2 ^ 63 + 2 ^ 63) c.more.result (omega arith) more_within in
-    let added = added_there c.args.sums.now.items c.args.at c.index.result.now c.more.result c.args.number there c.index.ensures more in
+    let added = added_there c.args.sums.now.items c.args.at c.index.result.now c.more.result c.args.number there
+    c.index.ensures more in
     record { value = ap (λ n. set c.args.sums.now.items c.args.at n) written ∙ added }
 
 pub returns : goal.returns

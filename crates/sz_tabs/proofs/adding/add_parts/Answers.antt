@@ -14,11 +14,13 @@ add_at-requires-clause-place c =
     search rules
 
 pub add_at-requires-clause-within : goal.add_at-requires-clause-within
-add_at-requires-clause-within c = added_within c.args.sums.now.items c.loop-at.sums.items c.args.parts.now c.loop-at.at c.requires c.loop-at.invariant
+add_at-requires-clause-within c = added_within c.args.sums.now.items c.loop-at.sums.items c.args.parts.now
+    c.loop-at.at c.requires c.loop-at.invariant
 
 pub loop-at-preserved : goal.loop-at-preserved
 loop-at-preserved c =
     let number = passed (2 ^ 63) c.number_of.result (omega arith) c.number_of.ensures.within in
     let added = c.in_ok-add_at.ensures.value ∙ ap (λ n. added_at c.loop-at.at n c.loop-at.sums.items) number in
-    added_more c.args.sums.now.items c.loop-at.sums.items c.add_at.new.sums.items c.args.parts.now c.loop-at.at c.index-parts-at.result c.number_of.result
-    c.loop-at-test.true c.index-parts-at.is c.number_of.ensures.value c.number_of.ensures.within added c.loop-at.invariant
+    added_more c.args.sums.now.items c.loop-at.sums.items c.add_at.new.sums.items c.args.parts.now c.loop-at.at
+    c.index-parts-at.result c.number_of.result c.loop-at-test.true c.index-parts-at.is c.number_of.ensures.value
+    c.number_of.ensures.within added c.loop-at.invariant

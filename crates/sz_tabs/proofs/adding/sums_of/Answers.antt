@@ -10,5 +10,6 @@ add_value-requires c =
 
 pub loop-one-preserved : goal.loop-one-preserved
 loop-one-preserved c =
-    summed_more c.loop-one.sums.items c.add_value.new.sums.items c.args.kept.now c.loop-one.one-index c.one-item.result c.loop-one-test.true c.one-item.is
+    summed_more c.loop-one.sums.items c.add_value.new.sums.items c.args.kept.now c.loop-one.one-index
+    c.one-item.result c.loop-one-test.true c.one-item.is
     c.in_ok-add_value.ensures.value c.in_ok-add_value.ensures.within c.loop-one.invariant

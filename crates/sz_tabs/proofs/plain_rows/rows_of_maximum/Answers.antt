@@ -11,8 +11,11 @@ pub returns : goal.returns
 returns c =
     let in_order = sorted greatest_first (map seen_kept c.args.kept.now) in
     let first = ap (map seen_greatest) c.truncate.ensures.items
-    ∙ taken_as_seen seen_greatest c.args.limit c.in_ok-greatest.greatest.items in_order c.in_ok-greatest.ensures.value in
+    ∙ taken_as_seen seen_greatest c.args.limit c.in_ok-greatest.greatest.items in_order
+    c.in_ok-greatest.ensures.value in
     record {
-      value = IfOk-weaker c.rows_by_greatest.result (λ rows. rows ≡ map weighted_row (map seen_greatest c.truncate.new.self.items))
-          (λ rows. rows ≡ map weighted_row (take c.args.limit in_order)) (λ rows is. is ∙ ap (map weighted_row) first) c.rows_by_greatest.ensures.value;
+      value = IfOk-weaker c.rows_by_greatest.result
+          (λ rows. rows ≡ map weighted_row (map seen_greatest c.truncate.new.self.items))
+          (λ rows. rows ≡ map weighted_row (take c.args.limit in_order))
+          (λ rows is. is ∙ ap (map weighted_row) first) c.rows_by_greatest.ensures.value;
     }

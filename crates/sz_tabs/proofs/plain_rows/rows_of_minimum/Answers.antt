@@ -13,6 +13,8 @@ returns c =
     let first = ap (map seen_least) c.truncate.ensures.items
     ∙ taken_as_seen seen_least c.args.limit c.in_ok-least.least.items in_order c.in_ok-least.ensures.value in
     record {
-      value = IfOk-weaker c.rows_by_least.result (λ rows. rows ≡ map weighted_row (map seen_least c.truncate.new.self.items))
-          (λ rows. rows ≡ map weighted_row (take c.args.limit in_order)) (λ rows is. is ∙ ap (map weighted_row) first) c.rows_by_least.ensures.value;
+      value = IfOk-weaker c.rows_by_least.result
+          (λ rows. rows ≡ map weighted_row (map seen_least c.truncate.new.self.items))
+          (λ rows. rows ≡ map weighted_row (take c.args.limit in_order))
+          (λ rows is. is ∙ ap (map weighted_row) first) c.rows_by_least.ensures.value;
     }

@@ -15,20 +15,22 @@ loop-key-init c =
 
 pub overflow_add-counts : goal.overflow_add-counts
 overflow_add-counts c =
-    let short = count_short c.args.lists.now.entries c.loop-key.key-iterator c.loop-key.counts c.place_of.result c.place_of.ensures.within
-    c.loop-key.invariant in
+    let short = count_short c.args.lists.now.entries c.loop-key.key-iterator c.loop-key.counts c.place_of.result
+    c.place_of.ensures.within c.loop-key.invariant in
     omega (arith, short, c.into_iter-key-iterator.ensures.into_iter_gives.1)
 
 pub loop-key-preserved : goal.loop-key-preserved
 loop-key-preserved c =
     let counts = c.loop-key.counts in
-    let step = rest_more deref_pair c.loop-key.key-iterator c.next.new.self c.next.result (c.in-Some.key, c.in-Some.field-0-1) c.in-Some.is
-    c.next.ensures.steps in
-    counted_more c.args.lists.now.entries c.loop-key.key-iterator c.next.new.self c.in-Some.key.now c.in-Some.field-0-1.now counts _ step
-    (part_within c.in-Some.key.now) (ap (λ k. slice_set counts k (slice_index_or counts k 0 + 1)) c.place_of.ensures.value) c.loop-key.invariant
+    let step = rest_more deref_pair c.loop-key.key-iterator c.next.new.self c.next.result
+    (c.in-Some.key, c.in-Some.field-0-1) c.in-Some.is c.next.ensures.steps in
+    counted_more c.args.lists.now.entries c.loop-key.key-iterator c.next.new.self c.in-Some.key.now
+    c.in-Some.field-0-1.now counts _ step (part_within c.in-Some.key.now)
+    (ap (λ k. slice_set counts k (slice_index_or counts k 0 + 1)) c.place_of.ensures.value) c.loop-key.invariant
 
 pub returns : goal.returns
 returns c = record {
   value = counted_all c.args.lists.now.entries c.loop-key.counts
-      (subst (λ es. IsCountedTo c.args.lists.now.entries es c.loop-key.counts) c.in-None.ensures.steps.0 c.loop-key.invariant);
+      (subst (λ es. IsCountedTo c.args.lists.now.entries es c.loop-key.counts)
+      c.in-None.ensures.steps.0 c.loop-key.invariant);
 }

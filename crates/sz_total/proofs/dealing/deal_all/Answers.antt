@@ -14,23 +14,26 @@ loop-key-init c =
 pub deal-requires : goal.deal-requires
 deal-requires c =
     let all = c.args.lists.entries in
-    let step = rest_more (λ p. p) c.loop-key.key-iterator c.next.new.self c.next.result (c.in-Some.key, c.in-Some.aggregate) c.in-Some.is
-    c.next.ensures.steps in
+    let step = rest_more (λ p. p) c.loop-key.key-iterator c.next.new.self c.next.result
+    (c.in-Some.key, c.in-Some.aggregate) c.in-Some.is c.next.ensures.steps in
     record {
-      may = may_put_next all c.next.new.self c.in-Some.key c.in-Some.aggregate c.loop-key.parts.items (part_within c.in-Some.key)
-          c.into_iter-key-iterator.ensures.into_iter_gives.4 (subst (λ es. IsDealtTo all es c.loop-key.parts.items) step c.loop-key.invariant);
+      may = may_put_next all c.next.new.self c.in-Some.key c.in-Some.aggregate c.loop-key.parts.items
+          (part_within c.in-Some.key) c.into_iter-key-iterator.ensures.into_iter_gives.4
+          (subst (λ es. IsDealtTo all es c.loop-key.parts.items) step c.loop-key.invariant);
     }
 
 pub loop-key-preserved : goal.loop-key-preserved
 loop-key-preserved c =
     let all = c.args.lists.entries in
-    let step = rest_more (λ p. p) c.loop-key.key-iterator c.next.new.self c.next.result (c.in-Some.key, c.in-Some.aggregate) c.in-Some.is
-    c.next.ensures.steps in
-    dealt_more all c.next.new.self c.in-Some.key c.in-Some.aggregate c.loop-key.parts.items c.deal.new.parts.items (part_within c.in-Some.key)
+    let step = rest_more (λ p. p) c.loop-key.key-iterator c.next.new.self c.next.result
+    (c.in-Some.key, c.in-Some.aggregate) c.in-Some.is c.next.ensures.steps in
+    dealt_more all c.next.new.self c.in-Some.key c.in-Some.aggregate c.loop-key.parts.items c.deal.new.parts.items
+    (part_within c.in-Some.key)
     (subst (λ es. IsDealtTo all es c.loop-key.parts.items) step c.loop-key.invariant) c.deal.ensures.value
 
 pub returns : goal.returns
 returns c = record {
   value = dealt_all c.args.lists.entries c.loop-key.parts.items
-      (subst (λ es. IsDealtTo c.args.lists.entries es c.loop-key.parts.items) c.in-None.ensures.steps.0 c.loop-key.invariant);
+      (subst (λ es. IsDealtTo c.args.lists.entries es c.loop-key.parts.items)
+      c.in-None.ensures.steps.0 c.loop-key.invariant);
 }

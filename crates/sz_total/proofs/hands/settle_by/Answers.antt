@@ -9,4 +9,5 @@ pub for_each_mut-requires-send-T : goal.for_each_mut-requires-send-T
 for_each_mut-requires-send-T g c κs within = search (sendable, crosses, part_send) depth 30
 
 pub for_each_mut-requires-clause-accepts : goal.for_each_mut-requires-clause-accepts
-for_each_mut-requires-clause-accepts g c κs within = λ i p less is. accepts_one c.args.parts.now.items _ (c.as_mut_slice.ensures.value) c.requires.may i p.now less is
+for_each_mut-requires-clause-accepts g c κs within =
+    λ i p less is. accepts_one c.args.parts.now.items _ (c.as_mut_slice.ensures.value) c.requires.may i p.now less is

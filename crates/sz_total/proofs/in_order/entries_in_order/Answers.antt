@@ -11,4 +11,5 @@ returns-clause-value c =
     (subst (IsPermutation all) (sym c.in_ok-entries.ensures.value) (IsPermutation-refl all))
 
 pub returns-clause-same : goal.returns-clause-same
-returns-clause-same c = subst (λ old. IsPermutation old c.sort_all.new.entries.items) c.in_ok-entries.ensures.value c.sort_all.ensures.value.same
+returns-clause-same c = subst (λ old. IsPermutation old c.sort_all.new.entries.items)
+    c.in_ok-entries.ensures.value c.sort_all.ensures.value.same

@@ -9,5 +9,6 @@ returns g c =
     let all = entries_of c.args.parts.now.items in
     record {
       value = c.in_ok-merge_pieces.ensures.ok.rows all c.in_ok-entries.ensures.apart
-          (subst (λ old. IsPermutation old c.sort_pieces.new.entries.items) c.in_ok-entries.ensures.value c.sort_pieces.ensures.same);
+          (subst (λ old. IsPermutation old c.sort_pieces.new.entries.items)
+          c.in_ok-entries.ensures.value c.sort_pieces.ensures.same);
     }

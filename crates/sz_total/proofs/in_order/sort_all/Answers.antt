@@ -7,5 +7,6 @@ use Rattle.sz_total.proofs.in_order.sort_all.Goals as goal
 pub returns : goal.returns
 returns c = record {
   value = sorts_all c.args.entries.now.items c.sort_unstable_by.new.self.items c.sort_unstable_by.ensures.permutation
-      (c.sort_unstable_by.ensures.sorted entries_less entries_ordered (always_returns_same _ _ _ (λ a r f called. search rules)));
+      (c.sort_unstable_by.ensures.sorted entries_less entries_ordered
+      (always_returns_same _ _ _ (λ a r f called. search rules)));
 }

@@ -19,10 +19,13 @@ returns g c =
     let same : length ys ≡ length xs = c.for_each_chunk_mut.auto.s ∙ ap length lent in
     let all : take c.args.entries.now.len (ys ++ drop (length ys) xs) ≡ ys =
     ap (λ rest. take c.args.entries.now.len (ys ++ rest)) (drop_of_length-le xs (omega (arith, same)))
-    ∙ ap (take c.args.entries.now.len) (append-nil ys) ∙ take_all c.args.entries.now.len ys (omega (arith, same, ap length lent, c.as_mut_slice.ensures.len)) in
-    let each : (n : ℕ) → n * c.args.size < length xs → IsPermutation (slice_chunk xs c.args.size n) (slice_chunk ys c.args.size n) = λ n less.
+    ∙ ap (take c.args.entries.now.len) (append-nil ys)
+    ∙ take_all c.args.entries.now.len ys (omega (arith, same, ap length lent, c.as_mut_slice.ensures.len)) in
+    let each : (n : ℕ) → n * c.args.size < length xs
+    → IsPermutation (slice_chunk xs c.args.size n) (slice_chunk ys c.args.size n) = λ n less.
     let r = c.for_each_chunk_mut.ensures.chunks n (omega (arith, less, ap length lent)) in
     let moved : IsPermutation r.argument.now r.after_call.now = r.call in
     subst (IsPermutation (slice_chunk xs c.args.size n)) r.left
-    (subst (λ l. IsPermutation l r.after_call.now) (r.argument_is ∙ ap (λ l. slice_chunk l c.args.size n) lent) moved) in
+    (subst (λ l. IsPermutation l r.after_call.now)
+    (r.argument_is ∙ ap (λ l. slice_chunk l c.args.size n) lent) moved) in
     record { same = subst (IsPermutation xs) (sym all) (chunks_moved c.args.size xs ys c.requires.size same each) }

@@ -9,5 +9,6 @@ pub returns-in-Some : goal.returns-in-Some
 returns-in-Some c = record {
   first = λ empty.
       first_key c.args.lists.now.entries c.in-Some.key.now c.in-Some.field-0-1.now c.in-Some.ensures.entry
-      (nil_from_length c.in-Some.key.now (eqb-true (length c.in-Some.key.now) 0 (sym c.is_empty.ensures.value ∙ empty)));
+      (nil_from_length c.in-Some.key.now
+      (eqb-true (length c.in-Some.key.now) 0 (sym c.is_empty.ensures.value ∙ empty)));
 }

@@ -21,10 +21,12 @@ returns-clause-ok c =
     let new = c.add_to.new.aggregate in
     let key_is = c.in_ok-key.ensures.value ∙ c.requires.key in
     let none = ap (λ l. lookup (same_indexes l) es) key_is ∙ c.requires.absent in
-    let now = c.in_ok-insert.ensures.entries ∙ insert_entry-new same_indexes c.args.lists.now key new none ∙ ap (λ l. es ++ (l, new) ∷ []) key_is in
+    let now = c.in_ok-insert.ensures.entries ∙ insert_entry-new same_indexes c.args.lists.now key new none
+    ∙ ap (λ l. es ++ (l, new) ∷ []) key_is in
     subst (TakesEmit table emit es) (sym now)
     (taken_new table emit es old new c.requires.absent c.in_ok-aggregate.ensures.empty c.in_ok-aggregate.ensures.family
-    (subst (λ e. Gains declaration_of count_of shown_of old new (brought_by e)) c.emit.view_is c.in_ok-add_to.ensures.ok) c.add_to.ensures.family
+    (subst (λ e. Gains declaration_of count_of shown_of old new (brought_by e))
+    c.emit.view_is c.in_ok-add_to.ensures.ok) c.add_to.ensures.family
     c.requires.short.value)
 
 pub returns-clause-capacity : goal.returns-clause-capacity

@@ -40,7 +40,8 @@ add_to-requires-clause-room c =
     let first = is_first c.args.lists.now.entries _ old c.pair_mut-aggregate.ensures.value
     (c.is_first_without_indexes.ensures.first c.if-is_first_without_indexes.true) in
     let there = ap (λ l. lookup (same_indexes l) entries) none ∙ first.found in
-    let one = of_table_there (seen_table c.args.table.now) (2 ^ 63 - 1) c.args.emit.now.indexes entries old c.requires.of_table there in
+    let one = of_table_there (seen_table c.args.table.now)
+    (2 ^ 63 - 1) c.args.emit.now.indexes entries old c.requires.of_table there in
     omega (arith, one.few)
 
 pub returns-then-is_first_without_indexes-clause-ok : goal.returns-then-is_first_without_indexes-clause-ok
@@ -59,7 +60,8 @@ returns-then-is_first_without_indexes-clause-ok c =
     on_ok_weaker c.add_to.result
     (λ gains. subst (TakesEmit table emit entries) (sym written)
     (taken_there table emit entries old new there
-    (subst (λ e. Gains declaration_of count_of shown_of old new (brought_by e)) c.emit.view_is gains) c.add_to.ensures.family c.requires.short.value (2 ^ 63 - 1) c.requires.of_table))
+    (subst (λ e. Gains declaration_of count_of shown_of old new (brought_by e)) c.emit.view_is gains)
+    c.add_to.ensures.family c.requires.short.value (2 ^ 63 - 1) c.requires.of_table))
     c.add_to.ensures.ok
 
 pub returns-then-is_first_without_indexes-clause-err : goal.returns-then-is_first_without_indexes-clause-err

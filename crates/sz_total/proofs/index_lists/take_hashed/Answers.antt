@@ -19,7 +19,8 @@ add_to-requires-clause-fits c =
     let table = seen_table c.args.table.now in
     let entries = c.args.lists.now.entries in
     let there = ap (λ l. lookup (same_indexes l) entries) (sym c.requires.key) ∙ sym c.in-Some.ensures.value in
-    let one = of_table_there table (2 ^ 63 - 1) c.args.emit.now.indexes entries c.in-Some.aggregate.now c.requires.of_table there in
+    let one = of_table_there table
+    (2 ^ 63 - 1) c.args.emit.now.indexes entries c.in-Some.aggregate.now c.requires.of_table there in
     subst (λ d. Fits d (weighted (seen c.emit.inside.value) c.emit.inside.weight)) (sym one.declared)
     (subst (λ e. Fits table (brought_by e)) (sym c.emit.view_is) c.requires.fits)
 
@@ -27,7 +28,8 @@ pub add_to-requires-clause-room : goal.add_to-requires-clause-room
 add_to-requires-clause-room c =
     let entries = c.args.lists.now.entries in
     let there = ap (λ l. lookup (same_indexes l) entries) (sym c.requires.key) ∙ sym c.in-Some.ensures.value in
-    let one = of_table_there (seen_table c.args.table.now) (2 ^ 63 - 1) c.args.emit.now.indexes entries c.in-Some.aggregate.now c.requires.of_table there in
+    let one = of_table_there (seen_table c.args.table.now)
+    (2 ^ 63 - 1) c.args.emit.now.indexes entries c.in-Some.aggregate.now c.requires.of_table there in
     omega (arith, one.few)
 
 -- nothing is
@@ -50,7 +52,8 @@ returns-in-Some-clause-ok c =
     on_ok_weaker c.add_to.result
     (λ gains. subst (TakesEmit table emit entries) (sym written)
     (taken_there table emit entries old new there
-    (subst (λ e. Gains declaration_of count_of shown_of old new (brought_by e)) c.emit.view_is gains) c.add_to.ensures.family c.requires.short.value (2 ^ 63 - 1) c.requires.of_table))
+    (subst (λ e. Gains declaration_of count_of shown_of old new (brought_by e)) c.emit.view_is gains)
+    c.add_to.ensures.family c.requires.short.value (2 ^ 63 - 1) c.requires.of_table))
     c.add_to.ensures.ok
 
 pub returns-in-Some-clause-err : goal.returns-in-Some-clause-err

@@ -7,20 +7,22 @@ use Rattle.sz_total.proofs.joining.make_room_in_each.Goals as goal
 
 pub make_room_under-requires : goal.make_room_under-requires
 make_room_under-requires c =
-    let step = rest_more deref_pair c.loop-key.key-iterator c.next.new.self c.next.result (c.in-Some.key, c.in-Some.other) c.in-Some.is
-    c.next.ensures.steps in
+    let step = rest_more deref_pair c.loop-key.key-iterator c.next.new.self c.next.result
+    (c.in-Some.key, c.in-Some.other) c.in-Some.is c.next.ensures.steps in
     let before = subst
     (IsRoomUpTo c.args.lists.now.entries c.args.others.now.entries c.loop-key.lists.entries) (step)
     c.loop-key.invariant.0 in
-    record { alike = alike_under c.loop-key.lists.entries c.in-Some.key.now c.in-Some.other.now c.next.new.self before.alike }
+    record {
+      alike = alike_under c.loop-key.lists.entries c.in-Some.key.now c.in-Some.other.now c.next.new.self before.alike;
+    }
 
 pub loop-key-preserved : goal.loop-key-preserved
 loop-key-preserved c =
     let first = c.args.lists.now.entries in
     let all = c.args.others.now.entries in
     let current = c.loop-key.lists.entries in
-    let step = rest_more deref_pair c.loop-key.key-iterator c.next.new.self c.next.result (c.in-Some.key, c.in-Some.other) c.in-Some.is
-    c.next.ensures.steps in
+    let step = rest_more deref_pair c.loop-key.key-iterator c.next.new.self c.next.result
+    (c.in-Some.key, c.in-Some.other) c.in-Some.is c.next.ensures.steps in
     let before = subst (IsRoomUpTo first all current) (step) c.loop-key.invariant.0 in (
       room_up_to_more first all current c.make_room_under.new.lists.entries c.in-Some.key.now c.in-Some.other.now
           c.next.new.self c.make_room_under.ensures.kept before c.in_ok-make_room_under.ensures.ok,

@@ -23,7 +23,8 @@ returns-in-Some-clause-ok c =
     let written = (c.get_mut.follows.holds now).0 in
     let there = ap (lookup (same_indexes key)) written ∙ found_replaced key key es c.in-Some.own.now now found
     ∙ ap (λ b. cond b (Some now) (lookup (same_indexes key) es)) (same_laws.refl key) in
-    on_ok_weaker c.reserve_for.result (λ room. subst (λ o. IfSome o (λ own. HasRoomFor own c.args.other.now)) (sym there) room) c.reserve_for.ensures.ok
+    on_ok_weaker c.reserve_for.result
+    (λ room. subst (λ o. IfSome o (λ own. HasRoomFor own c.args.other.now)) (sym there) room) c.reserve_for.ensures.ok
 
 pub returns-in-Some-clause-kept : goal.returns-in-Some-clause-kept
 returns-in-Some-clause-kept c =

@@ -14,12 +14,14 @@ returns-in-Ok-Occupied-clause-value c =
     let now = c.merge_into.new.aggregate in
     let found : lookup (same_indexes c.args.key) es ≡ Some own = search rules in
     let put = c.in-Ok-Occupied.ensures.update.1 now in
-    takes_some c.args.key c.args.other es _ own now found c.merge_into.ensures.value (search rules ∙ put_there c.args.key es own now found)
+    takes_some c.args.key c.args.other es _ own now found c.merge_into.ensures.value
+    (search rules ∙ put_there c.args.key es own now found)
 
 pub returns-in-Ok-Occupied-clause-capacity : goal.returns-in-Ok-Occupied-clause-capacity
 returns-in-Ok-Occupied-clause-capacity c =
     let now = c.merge_into.new.aggregate in
-    let enough = as_much_room c.args.lists.now c.in-Ok-Occupied.field-0 c.in-Ok-Occupied.own now _ c.in-Ok-Occupied.field-0-is
+    let enough =
+    as_much_room c.args.lists.now c.in-Ok-Occupied.field-0 c.in-Ok-Occupied.own now _ c.in-Ok-Occupied.field-0-is
     c.in-Ok-Occupied.ensures.room.0 (c.in-Ok-Occupied.ensures.len now) in
     search rules
 

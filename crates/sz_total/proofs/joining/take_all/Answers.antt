@@ -20,7 +20,8 @@ take-requires-clause-may c =
     let first = c.args.lists.now.entries in
     let all = c.args.others.entries in
     let current = c.loop-key.lists.entries in
-    let step = rest_more (λ p. p) c.loop-key.key-iterator c.next.new.self c.next.result (c.in-Some.key, c.in-Some.other) c.in-Some.is c.next.ensures.steps in
+    let step = rest_more (λ p. p) c.loop-key.key-iterator c.next.new.self c.next.result
+    (c.in-Some.key, c.in-Some.other) c.in-Some.is c.next.ensures.steps in
     may_take_next first all current c.in-Some.key c.in-Some.other c.next.new.self
     (subst (IsTakenUpTo first all current) (step) c.loop-key.invariant.0)
 
@@ -29,7 +30,8 @@ loop-key-preserved c =
     let first = c.args.lists.now.entries in
     let all = c.args.others.entries in
     let current = c.loop-key.lists.entries in
-    let step = rest_more (λ p. p) c.loop-key.key-iterator c.next.new.self c.next.result (c.in-Some.key, c.in-Some.other) c.in-Some.is c.next.ensures.steps in
+    let step = rest_more (λ p. p) c.loop-key.key-iterator c.next.new.self c.next.result
+    (c.in-Some.key, c.in-Some.other) c.in-Some.is c.next.ensures.steps in
     let before = subst (IsTakenUpTo first all current) (step) c.loop-key.invariant.0 in
     let long = ap length step in (
       taken_up_to_more first all current c.take.new.lists.entries c.in-Some.key c.in-Some.other c.next.new.self before

@@ -12,13 +12,15 @@ add_to_first-requires-clause-of_table c =
 
 pub add_spelled-requires-clause-of_table : goal.add_spelled-requires-clause-of_table
 add_spelled-requires-clause-of_table c =
-    part_of_table (seen_table c.args.table.now) _ c.place_of-at.result c.args.parts.now.items (omega (arith, c.place_of-at.ensures.within)) c.requires.of_table
+    part_of_table (seen_table c.args.table.now) _ c.place_of-at.result c.args.parts.now.items
+    (omega (arith, c.place_of-at.ensures.within)) c.requires.of_table
 
 pub returns-then-len-eq1-clause-ok : goal.returns-then-len-eq1-clause-ok
 returns-then-len-eq1-clause-ok c =
     let one : length c.args.parts.now.items ≡ 1 = search (rules, arith) in
     on_ok_weaker c.add_to_first.result
     (λ takes. subst
-    (λ at. TakesEmitAt (seen_table c.args.table.now) c.args.emit.now at c.args.parts.now.items c.add_to_first.new.parts.items)
+    (λ at. TakesEmitAt (seen_table c.args.table.now) c.args.emit.now at
+    c.args.parts.now.items c.add_to_first.new.parts.items)
     (only_part c.args.parts.now.items c.args.emit.now.indexes one) takes)
     c.add_to_first.ensures.ok

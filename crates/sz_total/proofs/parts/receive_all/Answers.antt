@@ -11,7 +11,8 @@ pub receive_at-requires : goal.receive_at-requires
 receive_at-requires c =
     let l = c.loop-other in
     let all = ap (λ rest. l.yielded ++ rest) (sym c.in-Some.ensures.steps.0) ∙ l.invariant.1 in
-    let there = found_after l.yielded c.in-Some.other (into_iter_items c.next.new.self) c.args.others.items l.at l.invariant.0 all in
+    let there = found_after l.yielded c.in-Some.other (into_iter_items c.next.new.self)
+    c.args.others.items l.at l.invariant.0 all in
     let less = slice_get_within c.args.others.items l.at c.in-Some.other there in
     record { there = omega (arith, less, c.requires.as_many, l.invariant.3.as_many) }
 
@@ -24,8 +25,8 @@ loop-other-preserved c =
       omega (arith, l.invariant.0, length-append l.yielded (c.in-Some.other ∷ [])),
       append_assoc l.yielded (c.in-Some.other ∷ []) rest ∙ all,
       omega (arith, l.invariant.2, ap length c.in-Some.ensures.steps.0, c.in-Some.ensures.steps.1),
-      received_more l.at c.args.others.items c.args.parts.now.items l.parts.items c.receive_at.new.parts.items c.in-Some.other there l.invariant.3
-          c.receive_at.ensures.value,
+      received_more l.at c.args.others.items c.args.parts.now.items l.parts.items c.receive_at.new.parts.items
+          c.in-Some.other there l.invariant.3 c.receive_at.ensures.value,
     )
 
 pub returns : goal.returns

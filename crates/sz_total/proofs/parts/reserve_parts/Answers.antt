@@ -11,23 +11,28 @@ loop-at-init c = part_room_none c.args.others.now.items c.args.parts.now.items
 pub reserve_part-requires : goal.reserve_part-requires
 reserve_part-requires c =
     let others = c.deref-other-items.result.now in
-    let there = slice_get_read others (length others) c.loop-at.at c.other-item.result refl c.loop-at-test.true c.other-item.is in
+    let there =
+    slice_get_read others (length others) c.loop-at.at c.other-item.result refl c.loop-at-test.true c.other-item.is in
     record {
-      alike = alike_at c.loop-at.at c.args.others.now.items c.args.parts.now.items c.loop-at.parts.items c.other-item.result c.requires.as_many
-          c.requires.alike c.loop-at.invariant (ap (λ l. slice_get l c.loop-at.at) (sym c.deref-other-items.ensures.value) ∙ there);
+      alike = alike_at c.loop-at.at c.args.others.now.items c.args.parts.now.items c.loop-at.parts.items
+          c.other-item.result c.requires.as_many c.requires.alike c.loop-at.invariant
+          (ap (λ l. slice_get l c.loop-at.at) (sym c.deref-other-items.ensures.value) ∙ there);
     }
 
 pub returns-in_err-reserve_part-clause-kept : goal.returns-in_err-reserve_part-clause-kept
 returns-in_err-reserve_part-clause-kept c =
-    looks_more c.loop-at.at c.args.parts.now.items c.loop-at.parts.items c.reserve_part.new.parts.items c.loop-at.invariant.looks
+    looks_more
+    c.loop-at.at c.args.parts.now.items c.loop-at.parts.items c.reserve_part.new.parts.items c.loop-at.invariant.looks
     c.reserve_part.ensures.kept
 
 pub loop-at-preserved : goal.loop-at-preserved
 loop-at-preserved c =
     let others = c.deref-other-items.result.now in
-    let there = slice_get_read others (length others) c.loop-at.at c.other-item.result refl c.loop-at-test.true c.other-item.is in
-    part_room_more c.loop-at.at c.args.others.now.items c.args.parts.now.items c.loop-at.parts.items c.reserve_part.new.parts.items c.other-item.result
-    (ap (λ l. slice_get l c.loop-at.at) (sym c.deref-other-items.ensures.value) ∙ there) c.loop-at.invariant c.in_ok-reserve_part.ensures.kept
+    let there =
+    slice_get_read others (length others) c.loop-at.at c.other-item.result refl c.loop-at-test.true c.other-item.is in
+    part_room_more c.loop-at.at c.args.others.now.items c.args.parts.now.items c.loop-at.parts.items
+    c.reserve_part.new.parts.items c.other-item.result (ap (λ l. slice_get l c.loop-at.at)
+    (sym c.deref-other-items.ensures.value) ∙ there) c.loop-at.invariant c.in_ok-reserve_part.ensures.kept
     c.in_ok-reserve_part.ensures.ok
 
 pub returns-clause-ok : goal.returns-clause-ok

@@ -9,11 +9,12 @@ pub merge_at-requires : goal.merge_at-requires
 merge_at-requires g c =
     let l = c.loop-other in
     let all = ap (λ rest. l.yielded ++ rest) (sym c.in-Some.ensures.steps.0) ∙ l.invariant.1 in
-    let there = found_after l.yielded c.in-Some.other (into_iter_items c.next.new.self) c.args.others.items l.at l.invariant.0 all in
+    let there = found_after l.yielded c.in-Some.other (into_iter_items c.next.new.self)
+    c.args.others.items l.at l.invariant.0 all in
     record {
       hands = c.requires.hands;
-      may = may_merge l.at c.in-Some.other c.args.others.items c.args.states.now.items l.states.items there c.requires.matched c.requires.few c.requires.room
-          l.invariant.3;
+      may = may_merge l.at c.in-Some.other c.args.others.items c.args.states.now.items l.states.items there
+          c.requires.matched c.requires.few c.requires.room l.invariant.3;
     }
 
 pub loop-other-preserved : goal.loop-other-preserved
@@ -25,8 +26,8 @@ loop-other-preserved g c =
       omega (arith, l.invariant.0, length-append l.yielded (c.in-Some.other ∷ [])),
       append_assoc l.yielded (c.in-Some.other ∷ []) rest ∙ all,
       omega (arith, l.invariant.2, ap length c.in-Some.ensures.steps.0, c.in-Some.ensures.steps.1),
-      merged_more l.at c.in-Some.other c.args.others.items c.args.states.now.items l.states.items c.merge_at.new.states.items there l.invariant.3
-          c.merge_at.ensures.value,
+      merged_more l.at c.in-Some.other c.args.others.items c.args.states.now.items l.states.items
+          c.merge_at.new.states.items there l.invariant.3 c.merge_at.ensures.value,
     )
 
 pub returns : goal.returns

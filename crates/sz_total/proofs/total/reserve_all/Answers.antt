@@ -10,26 +10,26 @@ pub reserve_at-requires : goal.reserve_at-requires
 reserve_at-requires c =
     let l = c.loop-at in
     record {
-      matched = next_matched l.at c.args.states.now.items c.args.others.now.items l.states.items l.others.items c.requires.matched l.invariant.0
-          (omega (arith, c.loop-at-test.true, l.invariant.1));
+      matched = next_matched l.at c.args.states.now.items c.args.others.now.items l.states.items l.others.items
+          c.requires.matched l.invariant.0 (omega (arith, c.loop-at-test.true, l.invariant.1));
     }
 
 pub returns-in_err-reserve_at-clause-kept : goal.returns-in_err-reserve_at-clause-kept
 returns-in_err-reserve_at-clause-kept c =
-    changes_more c.loop-at.at c.args.states.now.items c.loop-at.states.items c.reserve_at.new.states.items c.loop-at.invariant.0.kept
-    c.reserve_at.ensures.kept
+    changes_more c.loop-at.at c.args.states.now.items c.loop-at.states.items c.reserve_at.new.states.items
+    c.loop-at.invariant.0.kept c.reserve_at.ensures.kept
 
 pub returns-in_err-reserve_at-clause-others : goal.returns-in_err-reserve_at-clause-others
 returns-in_err-reserve_at-clause-others c =
-    changes_more c.loop-at.at c.args.others.now.items c.loop-at.others.items c.reserve_at.new.others.items c.loop-at.invariant.0.others_kept
-    c.reserve_at.ensures.others
+    changes_more c.loop-at.at c.args.others.now.items c.loop-at.others.items c.reserve_at.new.others.items
+    c.loop-at.invariant.0.others_kept c.reserve_at.ensures.others
 
 pub loop-at-preserved : goal.loop-at-preserved
 loop-at-preserved c =
     let l = c.loop-at in (
-      made_more l.at c.args.states.now.items c.args.others.now.items l.states.items l.others.items c.reserve_at.new.states.items
-          c.reserve_at.new.others.items l.invariant.0 c.in_ok-reserve_at.ensures.kept c.in_ok-reserve_at.ensures.others
-          c.in_ok-reserve_at.ensures.ok,
+      made_more l.at c.args.states.now.items c.args.others.now.items l.states.items l.others.items
+          c.reserve_at.new.states.items c.reserve_at.new.others.items l.invariant.0 c.in_ok-reserve_at.ensures.kept
+          c.in_ok-reserve_at.ensures.others c.in_ok-reserve_at.ensures.ok,
       length_changed l.at l.others.items c.reserve_at.new.others.items c.reserve_at.ensures.others ∙ l.invariant.1,
     )
 

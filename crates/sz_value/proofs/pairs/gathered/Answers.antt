@@ -16,6 +16,7 @@ loop-pair-preserved c = record {
   value =
       c.in_ok-put_in.ensures.ok
       ∙ ap (with_pair (seen c.in-Some.pair.key) (seen c.in-Some.pair.value)) c.loop-pair.invariant.value
-      ∙ sym (ap (with_pairs []) (map-append seen_pair c.loop-pair.yielded _) ∙ with_one_more [] (map seen_pair c.loop-pair.yielded) (seen_pair c.in-Some.pair));
+      ∙ sym (ap (with_pairs []) (map-append seen_pair c.loop-pair.yielded _)
+      ∙ with_one_more [] (map seen_pair c.loop-pair.yielded) (seen_pair c.in-Some.pair));
   rising = c.put_in.ensures.rising;
 }

@@ -6,5 +6,6 @@ use Rattle.sz_value.proofs.pairs.sorted.Goals as goal
 
 pub returns : goal.returns
 returns c = record {
-  value = sorted_alike _ _ (c.sort_by.ensures.stable key_less keys_ordered (always_returns_same _ _ _ (λ a r f called. search rules)));
+  value = sorted_alike _ _
+      (c.sort_by.ensures.stable key_less keys_ordered (always_returns_same _ _ _ (λ a r f called. search rules)));
 }

@@ -18,24 +18,26 @@ returns-in-Ok-clause-rising c =
 pub returns-in_ok-insert-in-Err-clause-ok : goal.returns-in_ok-insert-in-Err-clause-ok
 returns-in_ok-insert-in-Err-clause-ok c =
     rw c.in_ok-insert-in-Err.ensures.items
-    (put_between c.args.pairs.now.items c.in-Err.place (record { key = c.args.key; value = c.args.value }) c.requires.rising
-    (rw c.deref.ensures.value at c.in-Err.ensures.none)).pairs
+    (put_between c.args.pairs.now.items c.in-Err.place (record { key = c.args.key; value = c.args.value })
+    c.requires.rising (rw c.deref.ensures.value at c.in-Err.ensures.none)).pairs
 
 pub returns-in_ok-insert-in-Err-clause-rising : goal.returns-in_ok-insert-in-Err-clause-rising
 returns-in_ok-insert-in-Err-clause-rising c =
     rw c.in_ok-insert-in-Err.ensures.items
-    (put_between c.args.pairs.now.items c.in-Err.place (record { key = c.args.key; value = c.args.value }) c.requires.rising
-    (rw c.deref.ensures.value at c.in-Err.ensures.none)).rising
+    (put_between c.args.pairs.now.items c.in-Err.place (record { key = c.args.key; value = c.args.value })
+    c.requires.rising (rw c.deref.ensures.value at c.in-Err.ensures.none)).rising
 
 -- What asks for memory is a key that is not there.
 pub returns-in_err-insert-in-Err-clause-room : goal.returns-in_err-insert-in-Err-clause-room
 returns-in_err-insert-in-Err-clause-room c there =
     let gap = rw c.deref.ensures.value at c.in-Err.ensures.none in
-    let missing = value_missing (seen c.args.key) (map seen_pair c.args.pairs.now.items) c.in-Err.place c.requires.rising gap in
+    let missing =
+    value_missing (seen c.args.key) (map seen_pair c.args.pairs.now.items) c.in-Err.place c.requires.rising gap in
     absurd (false≢true (rw missing at there))
 
 pub returns-then-room-eq0-clause-room : goal.returns-then-room-eq0-clause-room
 returns-then-room-eq0-clause-room c there =
     let gap = rw c.deref.ensures.value at c.in-Err.ensures.none in
-    let missing = value_missing (seen c.args.key) (map seen_pair c.args.pairs.now.items) c.in-Err.place c.requires.rising gap in
+    let missing =
+    value_missing (seen c.args.key) (map seen_pair c.args.pairs.now.items) c.in-Err.place c.requires.rising gap in
     absurd (false≢true (rw missing at there))

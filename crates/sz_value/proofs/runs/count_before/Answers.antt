@@ -5,5 +5,6 @@ use Rattle.sz_value.proofs.runs.count_before.Goals as goal
 
 pub returns : goal.returns
 returns c = record {
-  value = end_before c.args.runs.now c.args.at c.index-runs-at.result (omega (arith, c.if-at-eq0.false)) c.requires.within c.requires.ends;
+  value = end_before c.args.runs.now c.args.at c.index-runs-at.result (omega (arith, c.if-at-eq0.false))
+      c.requires.within c.requires.ends;
 }

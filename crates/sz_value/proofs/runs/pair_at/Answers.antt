@@ -17,7 +17,9 @@ pub returns : goal.returns
 returns c =
     let count = count_more c.args.runs.now c.run_at-at.result c.index-runs-at.result c.run_at-at.ensures.within in
     record {
-      value = pair_is c.args.runs.now c.run_at-at.result c.args.place c.count_before.result c.index-runs-at.result c.index.result.now c.run_at-at.ensures.within
-          c.count_before.ensures.value (omega (arith, c.count_before.ensures.value, c.run_at-at.ensures.low)) c.run_at-at.ensures.high
-          (omega (arith, count, c.count_before.ensures.value, c.run_at-at.ensures.low, c.run_at-at.ensures.high)) c.index.ensures;
+      value = pair_is c.args.runs.now c.run_at-at.result c.args.place c.count_before.result c.index-runs-at.result
+          c.index.result.now c.run_at-at.ensures.within c.count_before.ensures.value
+          (omega (arith, c.count_before.ensures.value, c.run_at-at.ensures.low)) c.run_at-at.ensures.high
+          (omega (arith, count, c.count_before.ensures.value, c.run_at-at.ensures.low, c.run_at-at.ensures.high))
+          c.index.ensures;
     }

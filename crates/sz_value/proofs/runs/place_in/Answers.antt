@@ -30,4 +30,5 @@ pub returns-in-Err-clause-none : goal.returns-in-Err-clause-none
 returns-in-Err-clause-none c =
     let run = own_run refl c.index-runs-at.is c.run_for-at.ensures.within c.run_for-at.ensures.value in
     let gap = rw c.deref.ensures.value at c.in-Err.ensures.none in
-    value_at_run run ∙ value_missing (seen c.args.key.now) (seen_pairs c.index-runs-at.result.pairs.items) c.in-Err.field-0 (rise_at run c.requires.runs) gap
+    value_at_run run ∙ value_missing (seen c.args.key.now)
+    (seen_pairs c.index-runs-at.result.pairs.items) c.in-Err.field-0 (rise_at run c.requires.runs) gap

@@ -15,7 +15,17 @@ overflow_add-run c =
     let here = ap (λ r. length r.pairs.items) c.index_mut-run.ensures.value in
     let before = ap (λ rs. length (seen_runs (take c.loop-at.at rs))) c.deref.ensures.value in
     let whole = ap length c.loop-at.invariant.same in
-    omega (arith, all, here, before, whole, c.count_before-before.ensures.value, c.len.ensures, run.pairs.ok, c.requires.small)
+    omega (
+      arith,
+      all,
+      here,
+      before,
+      whole,
+      c.count_before-before.ensures.value,
+      c.len.ensures,
+      run.pairs.ok,
+      c.requires.small,
+    )
 
 pub loop-at-preserved : goal.loop-at-preserved
 loop-at-preserved c =

@@ -6,8 +6,8 @@ use Rattle.sz_value.proofs.weighing.+weight.Given as goal
 
 abbrev pub invariant-weight_of_list-loop-value : goal.invariant-weight_of_list-loop-value
 invariant-weight_of_list-loop-value l =
-    (min (l.total + list_weight (drop l.value-index l.value-items)) (2 ^ 64 - 1) ≡ min (list_weight l.value-items) (2 ^ 64 - 1))
-    × (l.total ≤ 2 ^ 64 - 1)
+    (min (l.total + list_weight (drop l.value-index l.value-items)) (2 ^ 64 - 1)
+    ≡ min (list_weight l.value-items) (2 ^ 64 - 1)) × (l.total ≤ 2 ^ 64 - 1)
 
 abbrev pub invariant-weight_of_pairs-loop-place : goal.invariant-weight_of_pairs-loop-place
 invariant-weight_of_pairs-loop-place l =

@@ -5,7 +5,8 @@ use Rattle.sz_wire.proofs.group.+group.Goals as goal
 
 pub after_group-returns-in_err-inner-clause-bad : goal.after_group-returns-in_err-inner-clause-bad
 after_group-returns-in_err-inner-clause-bad t c =
-    λ turns le. at_err c.from_residual.result (group_without_key c.loop-place.invariant.0 c.in_err-inner.ensures.bad turns le)
+    λ turns le. at_err c.from_residual.result
+    (group_without_key c.loop-place.invariant.0 c.in_err-inner.ensures.bad turns le)
 
 pub after_group-returns-then-inner-number-clause-found : goal.after_group-returns-then-inner-number-clause-found
 after_group-returns-then-inner-number-clause-found t c =

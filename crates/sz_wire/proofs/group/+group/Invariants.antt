@@ -10,7 +10,8 @@ abbrev pub decreases-after_value : goal.decreases-after_value
 decreases-after_value l = 2 * (100 - l.depth)
 
 abbrev pub invariant-after_group-loop-place : goal.invariant-after_group-loop-place
-invariant-after_group-loop-place l = IsInGroup l.bytes (100 - l.depth) l.number l.at l.place × (l.place ≤ length l.bytes)
+invariant-after_group-loop-place l =
+    IsInGroup l.bytes (100 - l.depth) l.number l.at l.place × (l.place ≤ length l.bytes)
 
 abbrev pub decreases-after_group-loop-place : goal.decreases-after_group-loop-place
 decreases-after_group-loop-place l = length l.bytes - l.place

@@ -6,5 +6,6 @@ use Rattle.sz_words.proofs.flags.flags_apart.Given as goal
 
 abbrev pub invariant-loop-word : goal.invariant-loop-word
 invariant-loop-word l =
-    (l.flags.items ++ flags_from l.at (map string_bytes (drop l.word-index l.words)) ≡ flags_in (map string_bytes l.words))
-    × (map string_bytes l.plain.items ++ plain_from l.at (map string_bytes (drop l.word-index l.words)) ≡ plain_words (map string_bytes l.words))
+    (l.flags.items ++ flags_from l.at (map string_bytes (drop l.word-index l.words))
+    ≡ flags_in (map string_bytes l.words)) × (map string_bytes l.plain.items
+    ++ plain_from l.at (map string_bytes (drop l.word-index l.words)) ≡ plain_words (map string_bytes l.words))

@@ -6,4 +6,5 @@ use Rattle.sz_words.proofs.reading.with_flags.Given as goal
 
 abbrev pub invariant-loop-flag : goal.invariant-loop-flag
 invariant-loop-flag l =
-    (with_flags (drop l.flag-index l.flags) l.settings ≡ with_flags l.flags l.fn.settings) × (IsBounded l.fn.settings → IsBounded l.settings)
+    (with_flags (drop l.flag-index l.flags) l.settings ≡ with_flags l.flags l.fn.settings)
+    × (IsBounded l.fn.settings → IsBounded l.settings)

@@ -6,4 +6,5 @@ use Rattle.sz_words.proofs.words.asked.Given as goal
 
 abbrev pub invariant-loop-name : goal.invariant-loop-name
 invariant-loop-name l =
-    with_options (app_of l.command) (map (λ n. n.now) (drop l.name-index l.name-items)) ≡ with_options asked_bare (map (λ n. n.now) l.name-items)
+    with_options (app_of l.command) (map (λ n. n.now) (drop l.name-index l.name-items))
+    ≡ with_options asked_bare (map (λ n. n.now) l.name-items)

@@ -13,5 +13,6 @@ loop-taken-preserved c =
     let is = sym c.next_of.ensures.value ∙ ap (option_map _) c.in-Some.is in
     ap (λ fs. fs ++ merged left c.in-Some.our_rest.now c.in-Some.their_rest.now) c.in_ok-push.ensures.ok
     ∙ append_assoc l.faults (c.in-Some.next ∷ []) (merged left c.in-Some.our_rest.now c.in-Some.their_rest.now)
-    ∙ ap (λ fs. l.faults ++ fs) (sym (merged_next left l.ours.now l.theirs.now c.in-Some.our_rest.now c.in-Some.their_rest.now c.in-Some.next is))
+    ∙ ap (λ fs. l.faults ++ fs)
+    (sym (merged_next left l.ours.now l.theirs.now c.in-Some.our_rest.now c.in-Some.their_rest.now c.in-Some.next is))
     ∙ ap (λ n. l.faults ++ merged n l.ours.now l.theirs.now) (sym one) ∙ l.invariant

@@ -9,8 +9,10 @@ returns-in-Part-clause-part g c =
     let job = g.N.RoundName.job in
     let round = g.N.RoundName.round in
     let most = ap (λ (f : FirstFaults). f.most) c.first_faults.ensures.value in
-    part_holds job round c.args.place c.args.number c.in-Part.total c.in-Part.faults c.first_faults.result c.requires.job c.requires.round
-    c.requires.number (ap (λ (f : FirstFaults). f.faults) c.first_faults.ensures.value) (omega (arith, most, c.requires.skip))
+    part_holds job round
+    c.args.place c.args.number c.in-Part.total c.in-Part.faults c.first_faults.result c.requires.job c.requires.round
+    c.requires.number (ap (λ (f : FirstFaults). f.faults) c.first_faults.ensures.value)
+    (omega (arith, most, c.requires.skip))
     (subst (IsEndOf job round c.args.place c.args.number) c.in-Part.is c.requires.end)
 
 pub returns-in-Part-clause-gave : goal.returns-in-Part-clause-gave
@@ -24,5 +26,7 @@ pub returns-in-Bad-clause-missed : goal.returns-in-Bad-clause-missed
 returns-in-Bad-clause-missed g c =
     let job = g.N.RoundName.job in
     let round = g.N.RoundName.round in
-    let end = subst (IsEndOf job round c.args.place c.args.number) c.in-Bad.is c.requires.end in
-    (bad_lives job round c.args.place c.args.number _ end, (bad_ends job round c.args.place c.args.number _ c.requires.number end).0)
+    let end = subst (IsEndOf job round c.args.place c.args.number) c.in-Bad.is c.requires.end in (
+      bad_lives job round c.args.place c.args.number _ end,
+      (bad_ends job round c.args.place c.args.number _ c.requires.number end).0,
+    )

@@ -14,6 +14,7 @@ loop-made-preserved g c =
     let is = c.in_ok-push.ensures.items in
     let longer = ap length is ∙ length-append l.lanes.items (lane ∷ []) in
     let of = ap (λ (k : LaneData). k.plan) c.in_ok-lane.ensures.value ∙ sym c.requires.plan in (
-      subst (AreEmpty p) (sym is) (one_more_empty p l.lanes.items lane l.invariant.0 of (ap (λ (k : LaneData). k.shards) c.in_ok-lane.ensures.value)),
+      subst (AreEmpty p) (sym is) (one_more_empty p l.lanes.items lane l.invariant.0 of
+          (ap (λ (k : LaneData). k.shards) c.in_ok-lane.ensures.value)),
       omega (arith, l.invariant.1, longer),
     )

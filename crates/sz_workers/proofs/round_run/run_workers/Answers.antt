@@ -4,8 +4,8 @@ use Rattle.std.proofs.Common.{rules, ◌≡◌, length}
 use Rattle.sz_book.proofs.lane.Lane.TheSendSync as lane
 use Rattle.sz_claims.proofs.ledger.Ledger.TheSendSync as ledger
 use Rattle.sz_claims.proofs.ledger.Pass.TheSendSync as pass
-use Rattle.sz_rounds.proofs.round.Round.TheSendSync as round
-use Rattle.sz_workers_loop.proofs.ClosingLemmas.{all_back}
+use Rattle.sz_workers.proofs.round.Round.TheSendSync as round
+use Rattle.sz_workers.proofs.ClosingLemmas.{all_back}
 use Rattle.sz_workers.proofs.SendLemmas.{job_sync, part_send, part_sync}
 use Rattle.sz_workers.proofs.round_run.run_workers.Goals as goal
 
@@ -22,6 +22,7 @@ map_vec-requires-send-X g c κs within =
 -- each worker came back
 pub returns-clause-back : goal.returns-clause-back
 returns-clause-back g c =
-    let long : length c.in_ok-back.back.items ≡ length c.args.ready.items = (let n = c.in_ok-back.ensures.len in search rules) in
+    let long : length c.in_ok-back.back.items ≡ length c.args.ready.items =
+    (let n = c.in_ok-back.ensures.len in search rules) in
     λ ledger fresh. all_back ledger 1 c.args.ready.items c.in_ok-back.back.items long fresh
     (λ i d low. let one = (c.in_ok-back.ensures.each i d low).1 in (one.job, one.job_is, one.call.met))

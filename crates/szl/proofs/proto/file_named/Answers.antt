@@ -1,6 +1,6 @@
 use Rattle.std.proofs.Common.{[], sym, subst}
-use Rattle.sz_protofile_laws.specs.Readings.{with_types}
-use Rattle.sz_protofile_laws.specs.Sound.{AreSound}
+use Rattle.sz_protofile_types.specs.Readings.{with_types}
+use Rattle.sz_protofile_types.specs.Sound.{AreSound}
 use Rattle.szl.specs.ProtoFiles.{IsFileRead}
 use Rattle.szl.specs.ProtoReads.{HaveTypeBytes}
 use Rattle.szl.proofs.NamedLemmas.{none_sound}

@@ -1,7 +1,7 @@
 use Rattle.std.proofs.Common.{subst}
 use Rattle.std.specs.Prelude.{Ok, Err}
 use Rattle.std.proofs.lemmas.Result.{err_from_is_err_and}
-use Rattle.sz_protofile_laws.specs.Readings.{with_types}
+use Rattle.sz_protofile_types.specs.Readings.{with_types}
 use Rattle.szl.specs.ProtoFiles.{IsFileRead}
 use Rattle.szl.specs.ProtoReads.{TellsTypes}
 use Rattle.szl.proofs.ProtoLemmas.{bytes_held, file_unread, file_told}

@@ -1,6 +1,6 @@
 use Rattle.std.proofs.Common.{subst}
 use Rattle.sz_protofile_names.specs.Outcome.{OrNoMemory}
-use Rattle.sz_protofile_rules.specs.Types.{IsRefused}
+use Rattle.sz_protofile.specs.Types.{IsRefused}
 use Rattle.szl.proofs.NamedLemmas.{types_have_bytes}
 use Rattle.szl.proofs.ProtoLemmas.{types_found, types_refused}
 use Rattle.szl.proofs.proto.types_in.Goals as goal

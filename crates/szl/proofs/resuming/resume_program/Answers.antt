@@ -5,10 +5,10 @@ use Rattle.std.proofs.lemmas.Result.{err_from_is_err_and}
 use Rattle.sz_attempt.specs.declared.job.Job.{Job}
 use Rattle.sz_mean.specs.Marked.{marked, all_tables}
 use Rattle.sz_save.specs.Saving.{HaveSpelling}
-use Rattle.sz_journal_format.specs.Rounds.{AreRounds}
+use Rattle.sz_journal.specs.Rounds.{AreRounds}
 use Rattle.sz_journal.specs.Journal.{rounds_of, KeepsRounds}
 use Rattle.sz_journal.specs.Opening.{FitsAnswer, FitsError, IsKept}
-use Rattle.sz_gates.specs.Crashing.{LeavesOnly}
+use Rattle.sz_disk.specs.Crashing.{LeavesOnly}
 use Rattle.szl.specs.Failing.{status_of}
 use Rattle.szl.specs.JournalRuns.{failure_of_journal, AnswersJob, IsAfterRounds, but_one}
 use Rattle.szl.specs.Opening.{status_of_answer}

@@ -3,7 +3,7 @@ use Rattle.std.proofs.Common.{◌≡◌, ap, subst, [], ◌∷◌, List, ℕ}
 use Rattle.std.proofs.lemmas.Result.{err_from_is_err_and}
 use Rattle.sz_tree.specs.View.{program_of}
 use Rattle.sz_mean.specs.Marked.{marked}
-use Rattle.sz_journal_format.specs.declared.job.JobBytes.{JobBytes}
+use Rattle.sz_journal.specs.declared.job.JobBytes.{JobBytes}
 use Rattle.szl.specs.declared.status.Status.TheVariants as status
 use Rattle.szl.specs.Failing.{status_of}
 use Rattle.szl.specs.Judgement.{spells}

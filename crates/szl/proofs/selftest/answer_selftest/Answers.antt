@@ -3,7 +3,7 @@ use Rattle.std.proofs.lemmas.Result.{err_from_is_err_and}
 use Rattle.std.specs.Prelude.{◌≡◌, ◌≤◌, length, Ok}
 use Rattle.sz_words.specs.declared.settings.RunSettings.{RunSettings}
 use Rattle.sz_mean.specs.Marked.{marked}
-use Rattle.sz_protofile_laws.specs.Sound.{AreSound}
+use Rattle.sz_protofile_types.specs.Sound.{AreSound}
 use Rattle.szl.specs.ProtoReads.{HaveTypeBytes}
 use Rattle.szl.specs.Savable.{savable}
 use Rattle.sz_feed.specs.Feed.{file_of}

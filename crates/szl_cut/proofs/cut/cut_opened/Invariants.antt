@@ -9,7 +9,8 @@ invariant-loop-progress g l = record {
   given : IsTrue (g.F.Files.given l.files l.file);
   room : 0 < vec_len l.buffer;
   reached : Reaches l.size l.progress (g.F.Files.left l.fn.files l.file) (g.F.Files.left l.files l.file);
-  kept : KeepsOtherFiles g.F.Files.held g.F.Files.left g.F.Files.given g.F.Files.names g.F.Files.faults l.file l.fn.files l.files;
+  kept : KeepsOtherFiles
+      g.F.Files.held g.F.Files.left g.F.Files.given g.F.Files.names g.F.Files.faults l.file l.fn.files l.files;
 }
 
 -- how many bytes may still be read

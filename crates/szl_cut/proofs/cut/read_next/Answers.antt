@@ -9,8 +9,9 @@ use Rattle.szl_cut.proofs.cut.read_next.Goals as goal
 -- it was taken in
 pub returns-in_ok-take-in-Ok-clause-read : goal.returns-in_ok-take-in-Ok-clause-read
 returns-in_ok-take-in-Ok-clause-read g c =
-    reads_piece c.args.progress.now c.take.new.self c.read.new.into c.in-Ok.count (g.F.Files.left c.args.files.now c.args.file)
-    (g.F.Files.left c.read.new.self c.args.file) c.in-Ok.count-test.1 c.in-Ok.ensures.within c.in-Ok.ensures.bytes.0 c.in_ok-take-in-Ok.ensures.taken
+    reads_piece c.args.progress.now c.take.new.self c.read.new.into c.in-Ok.count
+    (g.F.Files.left c.args.files.now c.args.file) (g.F.Files.left c.read.new.self c.args.file)
+    c.in-Ok.count-test.1 c.in-Ok.ensures.within c.in-Ok.ensures.bytes.0 c.in_ok-take-in-Ok.ensures.taken
 
 -- it fixes another ending
 pub returns-in_err-take-in-Ok-clause-why : goal.returns-in_err-take-in-Ok-clause-why
@@ -24,4 +25,5 @@ returns-in_err-take-in-Ok-clause-why g c =
 pub returns-in_err-take-in-Ok-clause-failed : goal.returns-in_err-take-in-Ok-clause-failed
 returns-in_err-take-in-Ok-clause-failed g c =
     let p = err_from_is_err_and c.from_residual.result c.from_residual.ensures.1 in
-    rw (p.1, p.2) (λ is. absurd (c.in_err-take-in-Ok.ensures.unread (ap (λ (f : Failure). let r : Result (Unit {0}) Failure = Err f in r) (err_parts is))))
+    rw (p.1, p.2) (λ is. absurd (c.in_err-take-in-Ok.ensures.unread
+    (ap (λ (f : Failure). let r : Result (Unit {0}) Failure = Err f in r) (err_parts is))))

@@ -10,7 +10,8 @@ invariant_of-self g c =
     let step = c.apply.ensures.applied.step in
     let lent = sym (c.in-Lane-true.is ∙ ap Lane c.in-Lane-true.field-0-test) ∙ step.answer in
     let was = home_by h.plan h.state c.args.lane_no true lent in
-    let lanes = in_place_lent h.plan h.state c.args.lane_no c.self.inside.homes.items c.self.invariant.lanes step.fits.1 was in
+    let lanes =
+    in_place_lent h.plan h.state c.args.lane_no c.self.inside.homes.items c.self.invariant.lanes step.fits.1 was in
     record {
       lanes = rw (step.next, c.take.ensures.after) lanes;
       empty = c.self.invariant.empty;

@@ -13,7 +13,8 @@ invariant_of-result g c =
     let room = c.in_ok-spare.ensures.exact in
     let most = c.len-2.ensures ∙ c.args.lanes.ok.0 in
     record {
-      lanes = rw (c.in_ok-ledger.ensures.value, homes, count) (in_place_open c.args.plan.now c.args.lanes.items c.requires.empty);
+      lanes = rw (c.in_ok-ledger.ensures.value, homes, count)
+          (in_place_open c.args.plan.now c.args.lanes.items c.requires.empty);
       empty = c.in_ok-spare.ensures.len;
       room = omega arith;
     }

@@ -9,7 +9,8 @@ use Rattle.sz_check_names.proofs.known.Known.put.Goals as goal
 typed : (c : goal.After-is_new) → IsTyped (length c.self.inside.types) c.args.meaning
 typed c =
     let k = c.self.inside in
-    subst (λ ts. IsTyped (length ts) c.args.meaning) (sym (types_are k.types k.meanings.items k.scopes k.sight k.locals c.args.self.now c.self.view_is))
+    subst (λ ts. IsTyped (length ts) c.args.meaning)
+    (sym (types_are k.types k.meanings.items k.scopes k.sight k.locals c.args.self.now c.self.view_is))
     c.requires.typed
 
 -- the meaning stands at the end of the list
@@ -27,17 +28,18 @@ placed_is c = rw (c.in_ok-place.ensures.ok.1) at c.placed-what.ensures.value
 pub invariant_of-self-2 : goal.invariant_of-self-2
 invariant_of-self-2 c =
     let k = c.self.inside in
-    kept_by_put k.types k.meanings.items c.push.new.self.items c.args.meaning c.args.name.now k.scopes c.declare.new.self k.sight c.in_ok-place.place
-    c.placed-what.result
-    c.self.invariant (typed c) (pushed c) (at_end c) (placed_is c) c.declare.result c.declare.ensures.ok c.declare.ensures.err
+    kept_by_put k.types k.meanings.items c.push.new.self.items c.args.meaning c.args.name.now k.scopes
+    c.declare.new.self k.sight c.in_ok-place.place c.placed-what.result
+    c.self.invariant (typed c) (pushed c) (at_end c)
+    (placed_is c) c.declare.result c.declare.ensures.ok c.declare.ensures.err
 
 pub returns-clause-new : goal.returns-clause-new
 returns-clause-new c =
     let k = c.self.inside in
     subst (λ r. IfOk r (λ new. new ≡ not (has c.args.name.now c.args.self.now.innermost))) (sym c.is_new.ensures.value)
-    (put_new k.types k.meanings.items c.push.new.self.items c.args.meaning c.args.name.now k.scopes c.declare.new.self k.sight c.in_ok-place.place
-    c.placed-what.result
-    c.self.invariant (typed c) (pushed c) (at_end c) (placed_is c) c.declare.result c.declare.ensures.ok c.declare.ensures.err
+    (put_new k.types k.meanings.items c.push.new.self.items c.args.meaning c.args.name.now k.scopes c.declare.new.self
+    k.sight c.in_ok-place.place c.placed-what.result c.self.invariant (typed c) (pushed c) (at_end c)
+    (placed_is c) c.declare.result c.declare.ensures.ok c.declare.ensures.err
     k.locals c.args.self.now c.self.view_is c.declare.ensures.twice)
 
 pub returns-clause-ok : goal.returns-clause-ok
@@ -46,12 +48,14 @@ returns-clause-ok c =
     let types = types_are k.types k.meanings.items k.scopes k.sight k.locals c.args.self.now c.self.view_is in
     let after = knowledge_of (blocks_by k.types c.push.new.self.items c.declare.new.self) k.sight k.types k.locals in
     subst (λ ts. IfOk c.is_new.result
-    (λ new. after ≡ (if new then with_name c.args.name.now (meaning_of ts c.args.meaning) c.args.self.now else c.args.self.now))) types
-    (subst (λ r. IfOk r (λ new. after
-    ≡ (if new then with_name c.args.name.now (meaning_of k.types c.args.meaning) c.args.self.now else c.args.self.now))) (sym c.is_new.ensures.value)
-    (put_ok k.types k.meanings.items c.push.new.self.items c.args.meaning c.args.name.now k.scopes c.declare.new.self k.sight c.in_ok-place.place
+    (λ new. after ≡ (if new then with_name c.args.name.now (meaning_of ts c.args.meaning) c.args.self.now
+    else c.args.self.now))) types (subst (λ r. IfOk r (λ new. after
+    ≡ (if new then with_name c.args.name.now (meaning_of k.types c.args.meaning) c.args.self.now
+    else c.args.self.now))) (sym c.is_new.ensures.value) (put_ok k.types k.meanings.items c.push.new.self.items
+    c.args.meaning c.args.name.now k.scopes c.declare.new.self k.sight c.in_ok-place.place
     c.placed-what.result
-    c.self.invariant (typed c) (pushed c) (at_end c) (placed_is c) c.declare.result c.declare.ensures.ok c.declare.ensures.err
+    c.self.invariant (typed c) (pushed c) (at_end c)
+    (placed_is c) c.declare.result c.declare.ensures.ok c.declare.ensures.err
     k.locals c.args.self.now c.self.view_is c.declare.ensures.twice))
 
 pub returns-clause-err : goal.returns-clause-err
@@ -59,7 +63,7 @@ returns-clause-err c =
     let k = c.self.inside in
     let after = knowledge_of (blocks_by k.types c.push.new.self.items c.declare.new.self) k.sight k.types k.locals in
     subst (λ r. OnErr r (after ≡ c.args.self.now)) (sym c.is_new.ensures.value)
-    (put_err k.types k.meanings.items c.push.new.self.items c.args.meaning c.args.name.now k.scopes c.declare.new.self k.sight c.in_ok-place.place
-    c.placed-what.result
-    c.self.invariant (typed c) (pushed c) (at_end c) (placed_is c) c.declare.result c.declare.ensures.ok c.declare.ensures.err
+    (put_err k.types k.meanings.items c.push.new.self.items c.args.meaning c.args.name.now k.scopes c.declare.new.self
+    k.sight c.in_ok-place.place c.placed-what.result c.self.invariant (typed c) (pushed c) (at_end c)
+    (placed_is c) c.declare.result c.declare.ensures.ok c.declare.ensures.err
     k.locals c.args.self.now c.self.view_is c.declare.ensures.twice)

@@ -13,7 +13,8 @@ returns-clause-number c =
 pub returns-clause-ok : goal.returns-clause-ok
 returns-clause-ok c =
     let stored = c.self.inside.stored.items in
-    let same = subst (λ types. shape_in (shapes_of types) c.in_ok-kept.kept ≡ shape_in (shapes_of types) c.in_ok-number.written) c.as_slice.ensures.value
+    let same = subst (λ types. shape_in (shapes_of types) c.in_ok-kept.kept
+    ≡ shape_in (shapes_of types) c.in_ok-number.written) c.as_slice.ensures.value
     c.in_ok-kept.ensures.value in
     ap shapes_of c.in_ok-push.ensures.items ∙ shapes_more stored c.in_ok-kept.kept
     ∙ ap (λ shape. shapes_of stored ++ shape ∷ []) (same ∙ ap (shape_in (shapes_of stored)) c.in_ok-number.ensures.ok.1)

@@ -2,13 +2,13 @@ use Rattle.std.proofs.Common.{◌≡◌, ◌+◌, ◌*◌, map, ap, sym, ◌∙�
 use Rattle.std.specs.Mem.Slots.{slots_items}
 use lib.ListN.{get_elem?}
 use Rattle.sz_claims.specs.Known.{ends_in}
-use Rattle.sz_claims.specs.Rule.{lane_data}
+use Rattle.sz_claims.specs.Rule.{view_of, lane_data}
 use Rattle.sz_claims.proofs.OpeningLemmas.{ended, same_lanes, closes}
 use Rattle.sz_claims.proofs.ledger.Ledger.close.Goals as goal
 
 pub take_lanes-requires-clause-home : goal.take_lanes-requires-clause-home
 take_lanes-requires-clause-home g c =
-    let e = ended g.T.Load.died g.T.Load.is_bad _ _ _ c.pass.inside.seat.me.0 _ _ _ _ _ c.close_with-closed.ensures.values.2
+    let e = ended g.T.Load.died g.T.Load.is_bad _ _ _ (view_of c.pass.inside.seat.me) _ _ _ _ _ c.close_with-closed.ensures.values.2
     c.pass.invariant.live c.pass.view_is c.requires.first c.requires.all c.requires.home in
     (map (lane_data c.args.pass.ledger.plan) (ends_in c.args.pass e.log).lists, e.lanes)
 
@@ -23,7 +23,7 @@ pub returns : goal.returns
 returns g c =
     let p = c.args.pass.ledger.plan in
     let ws = slots_items c.close_with-closed.result.words in
-    let e = ended g.T.Load.died g.T.Load.is_bad _ _ _ c.pass.inside.seat.me.0 _ _ _ _ _ c.close_with-closed.ensures.values.2
+    let e = ended g.T.Load.died g.T.Load.is_bad _ _ _ (view_of c.pass.inside.seat.me) _ _ _ _ _ c.close_with-closed.ensures.values.2
     c.pass.invariant.live c.pass.view_is c.requires.first c.requires.all c.requires.home in
     let x = ends_in c.args.pass e.log in
     let shards : p.shards ≡ c.self.inside.setup.plan.shards = ap (λ k. k.plan.shards) (c.requires.of ∙ sym c.self.view_is) in

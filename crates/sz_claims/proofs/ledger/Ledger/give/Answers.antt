@@ -1,4 +1,5 @@
 use Rattle.std.proofs.Common.{ap, sym, subst, arith}
+use Rattle.sz_claims.specs.Rule.{view_of}
 use Rattle.sz_claims.specs.Known.{MayGive}
 use Rattle.sz_claims.proofs.SoundLemmas.{one_ledger, sound_given}
 use Rattle.sz_claims.proofs.ViewLemmas.{one_lane}
@@ -6,7 +7,7 @@ use Rattle.sz_claims.proofs.ledger.Ledger.give.Goals as goal
 
 pub bring_home-requires-clause-table : goal.bring_home-requires-clause-table
 bring_home-requires-clause-table g c =
-    let one = one_ledger _ _ _ c.pass.inside.seat.me.0 _ _ _ _ c.pass.view_is c.self.view_is c.requires.of in
+    let one = one_ledger _ _ _ (view_of c.pass.inside.seat.me) _ _ _ _ c.pass.view_is c.self.view_is c.requires.of in
     let may = subst (λ k. MayGive k c.args.lane_no c.args.lane) (sym c.pass.view_is) c.requires.may in
     let low = (c.pass.invariant.busy c.args.lane_no may.has_lane).0 in
     let lanes = one.lanes_are in

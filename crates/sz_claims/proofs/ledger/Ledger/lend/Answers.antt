@@ -1,11 +1,12 @@
 use Rattle.std.proofs.Common.{◌<◌, ap, ◌∙◌, arith}
+use Rattle.sz_claims.specs.Rule.{view_of}
 use Rattle.sz_claims.proofs.SoundLemmas.{one_ledger, sound_asked}
 use Rattle.sz_claims.proofs.ViewLemmas.{asked_as}
 use Rattle.sz_claims.proofs.ledger.Ledger.lend.Goals as goal
 
 pub take_out-requires-clause-table : goal.take_out-requires-clause-table
 take_out-requires-clause-table g c =
-    let one = one_ledger _ _ _ c.pass.inside.seat.me.0 _ _ _ _ c.pass.view_is c.self.view_is c.requires.of in
+    let one = one_ledger _ _ _ (view_of c.pass.inside.seat.me) _ _ _ _ c.pass.view_is c.self.view_is c.requires.of in
     let lanes = ap (λ k. k.lanes) c.self.view_is in
     let low = c.requires.within in
     let words = c.self.invariant.words in
@@ -34,10 +35,10 @@ returns g c =
 
 pub invariant_of-pass : goal.invariant_of-pass
 invariant_of-pass g c =
-    let one = one_ledger _ _ _ c.pass.inside.seat.me.0 _ _ _ _ c.pass.view_is c.self.view_is c.requires.of in
+    let one = one_ledger _ _ _ (view_of c.pass.inside.seat.me) _ _ _ _ c.pass.view_is c.self.view_is c.requires.of in
     let lanes = ap (λ k. k.lanes) c.self.view_is in
     let of = one.lanes_are in
     let within = c.requires.within in
-    let low : c.args.lane_no < c.pass.inside.seat.me.0.lanes = omega arith in
+    let low : c.args.lane_no < (view_of c.pass.inside.seat.me).lanes = omega arith in
     sound_asked _ _ _ _ _ _ _ _ c.args.lane_no c.take_out.result c.pass.invariant (ap (λ k. k.lane) c.pass.view_is ∙ c.requires.idle) low
     c.take_out.ensures.asked

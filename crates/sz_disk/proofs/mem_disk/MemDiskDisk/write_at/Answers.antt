@@ -12,6 +12,9 @@ pub returns-clause-kept : goal.returns-clause-kept
 returns-clause-kept c =
     let noted = c.write.ensures.noted in
     let count = c.count_call.ensures in
-    let later : disk_faults c.args.self.now ≤ disk_faults c.write.new.self = omega (arith, c.write.ensures.faults, count.later) in
-    let stays : disk_faults c.args.self.now ≡ 2 ^ 64 - 1 → disk_faults c.write.new.self ≡ 2 ^ 64 - 1 = λ e. c.write.ensures.faults ∙ count.stays e in
-    ⊎_elim (λ more. goes_on_written _ _ later stays _ more noted.same_ended) (λ same. goes_on_same _ _ later stays same noted.same_ended) noted.writes
+    let later : disk_faults c.args.self.now ≤ disk_faults c.write.new.self =
+    omega (arith, c.write.ensures.faults, count.later) in
+    let stays : disk_faults c.args.self.now ≡ 2 ^ 64 - 1 → disk_faults c.write.new.self ≡ 2 ^ 64 - 1 =
+    λ e. c.write.ensures.faults ∙ count.stays e in
+    ⊎_elim (λ more. goes_on_written _ _ later stays _ more noted.same_ended)
+    (λ same. goes_on_same _ _ later stays same noted.same_ended) noted.writes

@@ -20,8 +20,11 @@ returns-clause-ok c =
     let new = ranks (heap_items c.hold.new.heap) in
     let rank = c.rank_of-rank.result in
     let least : HoldsLeast table.limit (old ++ (rank, value) ∷ []) new =
-    subst (λ n. HoldsLeast table.limit (old ++ (n, value) ∷ []) new) (to_z-of_z w64 rank c.rank_of-rank.ensures.fits) c.in_ok-hold.ensures.ok in
-    let emit : emit_of table.kind (rank, value) ≡ weighted value c.args.weight = λ i. record { value = value; weight = c.rank_of-rank.ensures.value i } in
+    subst (λ n. HoldsLeast table.limit (old ++ (n, value) ∷ []) new)
+    (to_z-of_z w64 rank c.rank_of-rank.ensures.fits) c.in_ok-hold.ensures.ok in
+    let emit : emit_of table.kind (rank, value) ≡ weighted value c.args.weight =
+    λ i. record { value = value; weight = c.rank_of-rank.ensures.value i } in
     extreme_gained _ _ c.self.view_is _ _ _
-    (subst (λ e. rows_of table (map (emit_of table.kind) new) ≡ rows_of table (map (emit_of table.kind) old ++ e ∷ [])) emit
+    (subst
+    (λ e. rows_of table (map (emit_of table.kind) new) ≡ rows_of table (map (emit_of table.kind) old ++ e ∷ [])) emit
     (kept_more table old new (rank, value) c.self.invariant.kind least))

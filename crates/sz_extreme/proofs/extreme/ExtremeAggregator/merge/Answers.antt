@@ -15,7 +15,8 @@ returns-clause-ok c =
     let others = ranks (heap_items c.other-2.inside.heap) in
     let new = ranks (heap_items c.put_all.new.heap) in
     let same = ap (λ e. e.table) c.other-2.view_is ∙ c.requires.same ∙ ap (λ e. e.table) (sym c.self.view_is) in
-    let least = subst (λ items. HoldsLeast table.limit (ranks items ++ others) new) c.reserve.ensures.items c.put_all.ensures.value in
+    let least = subst (λ items. HoldsLeast table.limit (ranks items ++ others) new)
+    c.reserve.ensures.items c.put_all.ensures.value in
     extreme_joined _ _ _ _ c.self.view_is c.other-2.view_is _ _ c.requires.same
     (kept_both table old others new c.self.invariant.kind least
     ∙ ap (λ t. rows_of table (map (emit_of table.kind) old ++ map (emit_of t.kind) others)) (sym same))

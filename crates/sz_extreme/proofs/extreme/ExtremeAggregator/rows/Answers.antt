@@ -17,9 +17,11 @@ returns c =
     let table = seen_table c.self.inside.table.now in
     let items = heap_items c.self.inside.heap in
     let few : length (ranks items) ≤ table.limit = omega (arith, c.self.invariant.few, length-map items seen_rank) in
-    let shown = ap (λ l. map weighted_row (map (emit_of table.kind) (sorted by_rank (map seen_rank l)))) c.as_slice.ensures.value
+    let shown =
+    ap (λ l. map weighted_row (map (emit_of table.kind) (sorted by_rank (map seen_rank l)))) c.as_slice.ensures.value
     ∙ rows_shown table (ranks items) c.self.invariant.kind few ∙ ap rows_of_extremes c.self.view_is in
     record {
-      value = IfOk-weaker c.rows_of.result (λ rows. rows ≡ map weighted_row (map (emit_of table.kind) (sorted by_rank (map seen_rank c.as_slice.result.now))))
+      value = IfOk-weaker c.rows_of.result (λ rows. rows
+          ≡ map weighted_row (map (emit_of table.kind) (sorted by_rank (map seen_rank c.as_slice.result.now))))
           (λ rows. rows ≡ rows_of_extremes c.args.self.now) (λ rows is. is ∙ shown) c.rows_of.ensures.value;
     }

@@ -11,5 +11,6 @@ returns c = record {
   value =
       c.digest_of.ensures.value
       ∙ ap digest
-      (c.as_slice.ensures.value ∙ bytes_are c.self.inside.bytes c.self.inside.spelled ∙ ap (λ values. spelled_parts (data_of values)) c.self.view_is);
+      (c.as_slice.ensures.value ∙ bytes_are c.self.inside.bytes c.self.inside.spelled
+      ∙ ap (λ values. spelled_parts (data_of values)) c.self.view_is);
 }

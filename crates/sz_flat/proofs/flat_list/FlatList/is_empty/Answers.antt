@@ -6,6 +6,7 @@ use Rattle.sz_flat.proofs.flat_list.FlatList.is_empty.Goals as goal
 pub returns : goal.returns
 returns c = record {
   value =
-      let bytes = empty_alike c.self.inside.bytes c.self.inside.spelled ∙ ap (λ values. length values == 0) c.self.view_is in
+      let bytes = empty_alike c.self.inside.bytes c.self.inside.spelled
+      ∙ ap (λ values. length values == 0) c.self.view_is in
       search rules;
 }

@@ -12,7 +12,8 @@ returns c =
     let b = c.other.inside.bytes in
     record {
       value = kept_order a b c.self.inside.spelled c.other.inside.spelled c.order_all.result
-          (subst (λ (p : List ℕ × List ℕ). Orders p.0 p.1 c.order_all.result) (λ i. (c.as_slice.ensures.value i, c.as_slice-2.ensures.value i))
+          (subst (λ (p : List ℕ × List ℕ). Orders p.0 p.1 c.order_all.result)
+          (λ i. (c.as_slice.ensures.value i, c.as_slice-2.ensures.value i))
           c.order_all.ensures.value)
           ∙ (λ i. slice_cmp compare (c.self.view_is i) (c.other.view_is i));
     }

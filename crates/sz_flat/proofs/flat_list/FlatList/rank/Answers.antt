@@ -11,5 +11,6 @@ returns c =
     record {
       value = ∥∥₁_elim kept.1 ∥∥₁_prop
           (λ k. ∣ subst (λ values. Ranks values c.rank_all.result) c.self.view_is
-          (c.rank_all.ensures.value kept.0 (subst (λ flat. SpellsAll flat kept.0) (sym c.as_slice.ensures.value) k)) ∣₁);
+          (c.rank_all.ensures.value kept.0 (subst (λ flat. SpellsAll flat kept.0) (sym c.as_slice.ensures.value) k))
+          ∣₁);
     }

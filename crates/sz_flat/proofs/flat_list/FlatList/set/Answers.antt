@@ -12,7 +12,8 @@ invariant_of-self-inside c = (
 
 pub returns-clause-ok : goal.returns-clause-ok
 returns-clause-ok c =
-    on_ok_weaker c.spell.result (λ h. values_are c.spell.new.self c.self-1.given.0 c.args.values.now h) c.spell.ensures.ok
+    on_ok_weaker c.spell.result (λ h. values_are c.spell.new.self c.self-1.given.0 c.args.values.now h)
+    c.spell.ensures.ok
 
 pub returns-clause-err : goal.returns-clause-err
 returns-clause-err c =

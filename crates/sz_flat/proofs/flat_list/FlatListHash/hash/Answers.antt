@@ -9,4 +9,5 @@ pub returns : goal.returns
 returns g c =
     c.write.ensures
     ∙ ap (g.H.Hasher.write c.args.state.now)
-    (c.as_slice.ensures.value ∙ bytes_are c.self.inside.bytes c.self.inside.spelled ∙ ap (λ values. spelled_parts (data_of values)) c.self.view_is)
+    (c.as_slice.ensures.value ∙ bytes_are c.self.inside.bytes c.self.inside.spelled
+    ∙ ap (λ values. spelled_parts (data_of values)) c.self.view_is)

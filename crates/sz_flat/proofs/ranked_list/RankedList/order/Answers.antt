@@ -10,6 +10,7 @@ returns-in_default c =
     let one = c.self.inside in
     let other = c.other.inside in
     record {
-      value = ranks_decide one.list.now other.list.now one.rank other.rank c.self.invariant c.other.invariant c.cmp.result c.cmp.ensures c.in_default.not-Equal
+      value = ranks_decide one.list.now other.list.now one.rank other.rank c.self.invariant c.other.invariant
+          c.cmp.result c.cmp.ensures c.in_default.not-Equal
           ∙ (λ i. slice_cmp compare (c.self.view_is i) (c.other.view_is i));
     }

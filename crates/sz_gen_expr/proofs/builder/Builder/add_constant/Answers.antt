@@ -14,17 +14,20 @@ returns c =
     let d = seen c.args.value.now in
     record {
       made = on_ok_weaker c.append.result (λ h. constant_pushed d c.in_ok-number-2.number c.args.charge c.args.place
-          (c.in_ok-number-2.ensures.value ∙ c.in_ok-number.ensures.number) c.in_ok-number.ensures.kept refl refl refl refl h) c.append.ensures.made;
+          (c.in_ok-number-2.ensures.value ∙ c.in_ok-number.ensures.number) c.in_ok-number.ensures.kept refl refl refl
+          refl h) c.append.ensures.made;
       kept = λ first g. c.append.ensures.kept first (more_constants c.args.self.now _
           (begins_with_one (λ e. is_eq (compare d e)) _ _ d c.in_ok-number.ensures.kept) refl refl refl refl first g);
     }
 
 -- the constants are as before
 pub returns-in_err-number-clause-kept : goal.returns-in_err-number-clause-kept
-returns-in_err-number-clause-kept c = more_constants c.args.self.now _ (begins_same _ _ c.in_err-number.ensures.err) refl refl refl refl
+returns-in_err-number-clause-kept c =
+    more_constants c.args.self.now _ (begins_same _ _ c.in_err-number.ensures.err) refl refl refl refl
 
 -- the constant is there
 pub returns-in_err-number-2-clause-kept : goal.returns-in_err-number-2-clause-kept
 returns-in_err-number-2-clause-kept c =
     let d = seen c.args.value.now in
-    more_constants c.args.self.now _ (begins_with_one (λ e. is_eq (compare d e)) _ _ d c.in_ok-number.ensures.kept) refl refl refl refl
+    more_constants c.args.self.now _
+    (begins_with_one (λ e. is_eq (compare d e)) _ _ d c.in_ok-number.ensures.kept) refl refl refl refl

@@ -6,8 +6,10 @@ use Rattle.sz_gen_expr.proofs.builder.Builder.patch.Goals as goal
 pub returns-in-Some-clause-lines : goal.returns-in-Some-clause-lines
 returns-in-Some-clause-lines c =
     c.set.ensures.value
-    ∙ changed_set with_target c.args.self.now.lines c.args.at c.args.to c.get-line.result.now c.in-Some.instr c.get-line.ensures.value (sym c.in-Some.ensures.value)
+    ∙ changed_set with_target c.args.self.now.lines c.args.at c.args.to c.get-line.result.now c.in-Some.instr
+    c.get-line.ensures.value (sym c.in-Some.ensures.value)
 
 pub returns-in_default-clause-lines : goal.returns-in_default-clause-lines
 returns-in_default-clause-lines c =
-    sym (changed_none with_target c.args.self.now.lines c.args.at c.args.to c.get-line.result.now c.get-line.ensures.value (sym c.aimed.ensures.value ∙ c.in_default.is))
+    sym (changed_none with_target c.args.self.now.lines c.args.at c.args.to c.get-line.result.now
+    c.get-line.ensures.value (sym c.aimed.ensures.value ∙ c.in_default.is))

@@ -40,7 +40,8 @@ returns-clause-bytes c =
     let pushed = pushed_if _ files.opened.items _ (record { file = c.in-Some.file; at = 0 }) succeeds c.push-2.ensures.items in
     let found = subst (λ l. Some c.in-Some.file ≡ place_in l c.args.name.now) c.deref.ensures.value c.in-Some.ensures.value in
     let next : c.len-number.result ≡ length files.opened.items = c.len-number.ensures ∙ files.opened.ok.0 in
-    let all = left_in-opened files.files.items _ c.in-Some.file called files.opened.items c.args.name.now c.len-number.result found next in
+    let all = left_in-opened files.files.items _ c.in-Some.file called
+    files.opened.items c.args.name.now c.len-number.result found next in
     ap (λ l. left_in (with_items files.files c.count_call-2.new.files).items l c.len-number.result) pushed ∙ all
 
 pub returns-clause-kept : goal.returns-clause-kept
@@ -54,7 +55,8 @@ returns-clause-kept c =
       held_same = λ name. bytes_named-called files.files.items after _ name called;
       left_same = λ number was.
           ap (λ l. left_in after l number) pushed
-          ∙ left_in-before files.files.items after _ called files.opened.items _ number (ltb-true number (length files.opened.items) was);
+          ∙ left_in-before files.files.items after _ called files.opened.items _ number
+          (ltb-true number (length files.opened.items) was);
       given_still = λ number was.
           let before = ltb-true number (length files.opened.items) was in
           let longer = ap length pushed ∙ length-append files.opened.items _ in
@@ -79,7 +81,8 @@ returns-then-fails_next-clause-plan c =
         counted = file_counted files.items after c.in-Some.file _ found called;
         others_same = file_others files.items after c.in-Some.file _ found called;
         names_same = called.same_places;
-        faults_now = faults_counted self.misses _ _ true (called.faults_now ∙ ap (λ b. faults_in files.items + (if b then 1 else 0)) fails);
+        faults_now = faults_counted self.misses _ _ true
+            (called.faults_now ∙ ap (λ b. faults_in files.items + (if b then 1 else 0)) fails);
       };
       following = λ number. refl;
     }
@@ -92,7 +95,8 @@ returns-clause-plan c =
     let found = subst (λ l. Some c.in-Some.file ≡ place_in l c.args.name.now) c.deref.ensures.value c.in-Some.ensures.value in
     let inside = subst (λ l. c.in-Some.file < length l) c.deref.ensures.value c.in-Some.ensures.within in
     let passes : is_next_listed files.items c.in-Some.file ≡ false =
-    ap (λ l. is_next_listed l c.in-Some.file) (sym c.deref-2.ensures.value) ∙ sym c.fails_next.ensures ∙ c.if-fails_next.false in
+    ap (λ l. is_next_listed l c.in-Some.file) (sym c.deref-2.ensures.value) ∙ sym c.fails_next.ensures
+    ∙ c.if-fails_next.false in
     let after = (with_items files c.count_call-2.new.files).items in
     let succeeds : is_ok c.push-2.result ≡ true = c.is_err.ensures.negation ∙ ap not c.if-is_err.false in
     let place : Place = record { file = c.in-Some.file; at = 0 } in
@@ -104,8 +108,10 @@ returns-clause-plan c =
         counted = file_counted files.items after c.in-Some.file _ found called;
         others_same = file_others files.items after c.in-Some.file _ found called;
         names_same = called.same_places;
-        faults_now = faults_counted self.misses _ _ false (called.faults_now ∙ ap (λ b. faults_in files.items + (if b then 1 else 0)) passes);
+        faults_now = faults_counted self.misses _ _ false
+            (called.faults_now ∙ ap (λ b. faults_in files.items + (if b then 1 else 0)) passes);
       };
       following = λ number.
-          ap (λ l. option_map (λ p. p.file) (slice_get l number)) pushed ∙ following-push self.opened.items place number _ _ found next;
+          ap (λ l. option_map (λ p. p.file) (slice_get l number)) pushed
+          ∙ following-push self.opened.items place number _ _ found next;
     }

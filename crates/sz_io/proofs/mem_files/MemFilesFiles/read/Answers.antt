@@ -26,8 +26,10 @@ invariant_of-self-clause-placed c =
     let files = c.args.self.now.files in
     let opened = c.args.self.now.opened.items in
     let called = called_in files _ _ _ c.deref_mut.ensures.value c.read_at.ensures.call in
-    let here = placed_in files _ _ _ c.read_at.new.place c.deref_mut.ensures.value c.read_at.ensures.call c.read_at.ensures.place in
-    placed_set _ opened c.args.file c.read_at.new.place here (placed_kept files.items _ opened _ called c.args.self.now.placed)
+    let here = placed_in files _ _ _
+    c.read_at.new.place c.deref_mut.ensures.value c.read_at.ensures.call c.read_at.ensures.place in
+    placed_set _ opened c.args.file c.read_at.new.place here
+    (placed_kept files.items _ opened _ called c.args.self.now.placed)
 
 pub returns-clause-kept : goal.returns-clause-kept
 returns-clause-kept c =
@@ -39,7 +41,8 @@ returns-clause-kept c =
     record {
       held_same = λ name. bytes_named-called files.items after _ name called;
       left_same = λ other apart.
-          left_in-set_other after opened c.args.file other c.read_at.new.place apart ∙ left_in-called files.items after opened _ other called;
+          left_in-set_other after opened c.args.file other c.read_at.new.place apart
+          ∙ left_in-called files.items after opened _ other called;
       given_same = λ other. ap (nat_lt other) (length-set opened c.args.file c.read_at.new.place);
       names_same = refl;
       faults_later = let now = called.faults_now in omega (arith, now);
@@ -59,14 +62,16 @@ returns-clause-plan c =
     let found = sym (ap (option_map (λ p. p.file)) there) in
     let known = (self.placed c.args.file c.index_mut.result.now there).known in
     let told : is_err c.read_at.result ≡ is_next_listed files.items c.index_mut.result.now.file =
-    listed_so _ _ c.read_at.ensures.listed ∙ ap (λ l. is_next_listed l c.index_mut.result.now.file) c.deref_mut.ensures.value in
+    listed_so _ _ c.read_at.ensures.listed
+    ∙ ap (λ l. is_next_listed l c.index_mut.result.now.file) c.deref_mut.ensures.value in
     let after = (with_items files c.read_at.new.files).items in
     record {
       fails = told ∙ sym (file_fails files.items after _ _ found called known);
       counted = file_counted files.items after _ _ found called;
       others_same = file_others files.items after _ _ found called;
       names_same = called.same_places;
-      faults_now = faults_counted self.misses _ _ _ (called.faults_now ∙ ap (λ b. faults_in files.items + (if b then 1 else 0)) (sym told));
+      faults_now = faults_counted self.misses _ _ _
+          (called.faults_now ∙ ap (λ b. faults_in files.items + (if b then 1 else 0)) (sym told));
     }
 
 pub returns-clause-following : goal.returns-clause-following

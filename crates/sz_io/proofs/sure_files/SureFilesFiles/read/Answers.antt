@@ -16,9 +16,11 @@ returns-clause-kept c =
     slice_get-get_or opened c.args.file c.index_mut.result.now inside ∙ ap Some (sym c.index_mut.ensures.value) in
     record {
       held_same = λ name. refl;
-      left_same = λ other apart. ap (option_and_then copy_left) (slice_get-set_other opened c.args.file other c.read.new.self apart);
+      left_same = λ other apart.
+          ap (option_and_then copy_left) (slice_get-set_other opened c.args.file other c.read.new.self apart);
       given_same = λ other. ap (nat_lt other) (length-set opened c.args.file c.read.new.self);
-      names_same = map-set_same copy_name opened c.args.file c.index_mut.result.now c.read.new.self there c.read.ensures.name;
+      names_same =
+          map-set_same copy_name opened c.args.file c.index_mut.result.now c.read.new.self there c.read.ensures.name;
       faults_later = omega arith;
       faults_stay = λ stands. stands;
     }
@@ -29,5 +31,6 @@ returns-clause-moves c =
     let inside : c.args.file < length opened = ltb-true c.args.file (length opened) c.requires in
     let there : slice_get opened c.args.file ≡ Some c.index_mut.result.now =
     slice_get-get_or opened c.args.file c.index_mut.result.now inside ∙ ap Some (sym c.index_mut.ensures.value) in
-    subst (λ o. IfSome (option_and_then copy_left o) (λ left. c.read.result ≡ min (length left) (length c.read.new.into))) (sym there)
+    subst (λ o. IfSome (option_and_then copy_left o)
+    (λ left. c.read.result ≡ min (length left) (length c.read.new.into))) (sym there)
     c.read.ensures.moves

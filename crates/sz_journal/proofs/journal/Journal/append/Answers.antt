@@ -1,7 +1,7 @@
 -- The entry that is appended is that of the round.
 use Rattle.std.proofs.Common.{◌≡◌, ◌∙◌, inl}
-use Rattle.sz_journal_format.specs.Rounds.{round_bytes}
-use Rattle.sz_journal_rules.specs.Journals.{entries_of}
+use Rattle.sz_journal.specs.Rounds.{round_bytes}
+use Rattle.sz_journal.specs.Journals.{entries_of}
 use Rattle.sz_journal.specs.Journal.{rounds_of}
 use Rattle.sz_journal.proofs.SpellLemmas.{keeps_more, leaves_one}
 use Rattle.sz_journal.proofs.LeftLemmas.{leaves_still}
@@ -22,7 +22,8 @@ pub returns-clause-ok : goal.returns-clause-ok
 returns-clause-ok g c job decls held read is_of spells are =
     let rounds = rounds_of c.args.self.now in
     let is : c.deref.result.now ≡ round_bytes c.args.round = c.deref.ensures.value ∙ c.in_ok-entry.ensures.value in
-    keeps_more job rounds c.args.round c.deref.result.now is decls are (g.K.Disk.bytes c.append.new.disk) (g.K.Disk.may_leave c.append.new.disk)
+    keeps_more job rounds c.args.round c.deref.result.now is decls are (g.K.Disk.bytes c.append.new.disk)
+    (g.K.Disk.may_leave c.append.new.disk)
     (c.in_ok-next.ensures.ok (entries_of job rounds) held read spells.holds is_of.end)
 
 pub returns-clause-leaves : goal.returns-clause-leaves

@@ -7,4 +7,5 @@ pub returns-clause-left : goal.returns-clause-left
 returns-clause-left c =
     let s = c.self.inside in
     let none : c.replace.new.dest ≡ None = search rules in
-    rw (sym c.self.view_is) (rw none (one_kept s.waiting.items s.cells.items s.lists.items s.locals_from s.lists_from c.args.n None))
+    rw (sym c.self.view_is)
+    (rw none (one_kept s.waiting.items s.cells.items s.lists.items s.locals_from s.lists_from c.args.n None))

@@ -14,11 +14,14 @@ abbrev octets_of : Slot → List ℕ
 octets_of (Some (bytes octets)) = octets
 octets_of _ = []
 
-utf8_of : (read octets : List ℕ) → is_ascii read ≡ true → Some (bytes read) ≡ Some (bytes octets) → is_utf8 octets ≡ true
-utf8_of read octets ascii is = subst (λ s. is_utf8 s ≡ true) (ap octets_of is) (is_utf8-from_IsUtf8 read (ascii_is_text read ascii))
+utf8_of : (read octets : List ℕ) → is_ascii read ≡ true → Some (bytes read) ≡ Some (bytes octets)
+    → is_utf8 octets ≡ true
+utf8_of read octets ascii is =
+    subst (λ s. is_utf8 s ≡ true) (ap octets_of is) (is_utf8-from_IsUtf8 read (ascii_is_text read ascii))
 
 pub returns-clause-utf8 : goal.returns-clause-utf8
 returns-clause-utf8 c = λ octets is.
     let read = c.in-Some.field-0 in
-    let same = ap (λ s. Some (bytes s)) (c.in-Some.ensures.some ∙ c.part_bytes.ensures.value) ∙ sym (ap slot_of c.in-Part.is) ∙ c.self.view_is in
+    let same = ap (λ s. Some (bytes s)) (c.in-Some.ensures.some ∙ c.part_bytes.ensures.value)
+    ∙ sym (ap slot_of c.in-Part.is) ∙ c.self.view_is in
     utf8_of read.octets.now octets read.ascii (same ∙ is)

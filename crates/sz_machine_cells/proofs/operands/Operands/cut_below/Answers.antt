@@ -17,8 +17,12 @@ returns-clause-made c =
     let weight = c.in_ok-weight.weight in
     let from = to_z-of_z w64 c.args.from c.ranges.from in
     let to = to_z-of_z w64 c.args.to c.ranges.to in
-    subst (λ new. IsCut c.args.from c.args.to weight c.args.self.now new) (sym (c.drop_one-2.ensures.value ∙ ap (drop 1) c.drop_one.ensures.value))
-    (subst (λ old. IsCut c.args.from c.args.to weight old (drop 1 (drop 1 (reverse (set xs (c.len-place.result - 3) c.cut.new.self))))) c.self.view_is
-    (is_cut xs (c.len-place.result - 3) c.index_mut.result.now c.cut.new.self c.args.from c.args.to weight long (ap (λ n. n - 3) len)
-    (c.self.view_is ∙ c.requires.ints ∙ ap (λ l. Some (int c.args.to) ∷ Some (int c.args.from) ∷ drop 2 l) (sym c.self.view_is))
-    c.index_mut.ensures.value (cut.made ∙ (λ i. slice_of c.index_mut.result.now (Some (int (from i))) (Some (int (to i))))) cut.weight.0))
+    subst (λ new. IsCut c.args.from c.args.to weight c.args.self.now new)
+    (sym (c.drop_one-2.ensures.value ∙ ap (drop 1) c.drop_one.ensures.value))
+    (subst (λ old. IsCut c.args.from c.args.to weight old
+    (drop 1 (drop 1 (reverse (set xs (c.len-place.result - 3) c.cut.new.self))))) c.self.view_is
+    (is_cut xs (c.len-place.result - 3) c.index_mut.result.now c.cut.new.self c.args.from c.args.to weight long
+    (ap (λ n. n - 3) len) (c.self.view_is ∙ c.requires.ints
+    ∙ ap (λ l. Some (int c.args.to) ∷ Some (int c.args.from) ∷ drop 2 l) (sym c.self.view_is))
+    c.index_mut.ensures.value
+    (cut.made ∙ (λ i. slice_of c.index_mut.result.now (Some (int (from i))) (Some (int (to i))))) cut.weight.0))

@@ -8,6 +8,7 @@ pub returns : goal.returns
 returns c =
     let xs = c.self.inside.cells.items in
     let len : c.len.result ≡ length xs = search rules in
-    let within : c.args.count ≤ length xs = omega (arith, c.requires.within, ap length (sym c.self.view_is) ∙ length-reverse xs) in
+    let within : c.args.count ≤ length xs =
+    omega (arith, c.requires.within, ap length (sym c.self.view_is) ∙ length-reverse xs) in
     let kept = c.truncate.ensures.items ∙ ap (λ m. take (m - c.args.count) xs) len in
     record { value = ap reverse kept ∙ below_last xs c.args.count within ∙ ap (drop c.args.count) c.self.view_is }

@@ -3,7 +3,7 @@ use Rattle.std.proofs.lemmas.List.{length-reverse, take_rest}
 use Rattle.std.proofs.Common.{rules, arith, ◌≡◌, ◌∙◌, ◌≤◌, ◌<◌, ◌-◌, length, take, drop, sym, ap, subst, IfOk, IfSome, IfNone}
 use Rattle.sz_world_rules.specs.Operations.{map_of}
 use Rattle.sz_world_rules.specs.Ticks.{result_weight}
-use Rattle.sz_machine_rules.specs.States.{popped}
+use Rattle.sz_instr.specs.States.{popped}
 use Rattle.sz_machine_cells.proofs.ListLemmas.{last_of}
 use Rattle.sz_machine_cells.proofs.operands.Operands.map_within.Goals as goal
 
@@ -15,10 +15,13 @@ returns c =
     let same : ys ≡ xs = search rules in
     let within : n ≤ length xs = omega (arith, c.requires.within, ap length (sym c.self.view_is) ∙ length-reverse xs) in
     let len : c.len.result ≡ length xs = search rules in
-    let cells : drop (c.len.result - n) xs ≡ popped n c.args.self.now = ap (λ m. drop (m - n) xs) len ∙ last_of xs n within ∙ ap (popped n) c.self.view_is in
+    let cells : drop (c.len.result - n) xs ≡ popped n c.args.self.now =
+    ap (λ m. drop (m - n) xs) len ∙ last_of xs n within ∙ ap (popped n) c.self.view_is in
     let top : take (length ys - (c.len.result - n)) (drop (c.len.result - n) ys) ≡ popped n c.args.self.now =
     take_rest ys (c.len.result - n) ∙ ap (drop (c.len.result - n)) same ∙ cells in
     record {
-      some = subst (λ zs. IfOk c.map_within.result (λ made. IfSome made (λ cell. (cell ≡ map_of zs) × (result_weight (map_of zs) ≤ c.args.most)))) top c.map_within.ensures.some;
-      none = subst (λ zs. IfOk c.map_within.result (λ made. IfNone made (c.args.most < result_weight (map_of zs)))) top c.map_within.ensures.none;
+      some = subst (λ zs. IfOk c.map_within.result (λ made. IfSome made
+          (λ cell. (cell ≡ map_of zs) × (result_weight (map_of zs) ≤ c.args.most)))) top c.map_within.ensures.some;
+      none = subst (λ zs. IfOk c.map_within.result (λ made. IfNone made (c.args.most < result_weight (map_of zs))))
+          top c.map_within.ensures.none;
     }

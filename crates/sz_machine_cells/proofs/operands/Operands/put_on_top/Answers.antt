@@ -11,5 +11,6 @@ returns c =
     let put : c.replace-before.new.dest ≡ c.args.cell = search rules in
     let within : 0 < length xs = omega (arith, c.requires.some, ap length (sym c.self.view_is) ∙ length-reverse xs) in
     record {
-      value = (λ i. reverse (set xs (len i - 1) (put i))) ∙ top_set xs c.args.cell within ∙ ap (λ l. c.args.cell ∷ drop 1 l) c.self.view_is;
+      value = (λ i. reverse (set xs (len i - 1) (put i))) ∙ top_set xs c.args.cell within
+          ∙ ap (λ l. c.args.cell ∷ drop 1 l) c.self.view_is;
     }

@@ -10,7 +10,8 @@ loop-preserved-in_default c =
     let e = sym c.loop.invariant.rest ∙ c.pop-cell.ensures.value ∙ ap (λ x. x ∷ c.pop-cell.new.self) none in
     record {
       rest = sym (one_off c.args.self.now c.loop.counter None c.pop-cell.new.self e).0;
-      values = none_off c.loop.values.items c.args.self.now c.loop.counter c.pop-cell.new.self c.loop.invariant.values e;
+      values =
+          none_off c.loop.values.items c.args.self.now c.loop.counter c.pop-cell.new.self c.loop.invariant.values e;
     }
 
 pub loop-preserved : goal.loop-preserved
@@ -18,7 +19,8 @@ loop-preserved c =
     let v = c.in-Some.value in
     let some : c.pop-cell.result ≡ Some (seen v) = search rules in
     let e = sym c.loop.invariant.rest ∙ c.pop-cell.ensures.value ∙ ap (λ x. x ∷ c.pop-cell.new.self) some in
-    let made = value_off c.loop.values.items c.args.self.now c.loop.counter c.pop-cell.new.self c.loop.invariant.values v e in
+    let made =
+    value_off c.loop.values.items c.args.self.now c.loop.counter c.pop-cell.new.self c.loop.invariant.values v e in
     record {
       rest = sym (one_off c.args.self.now c.loop.counter (Some (seen v)) c.pop-cell.new.self e).0;
       values = ap (λ vs. map seen vs) c.in_ok-push.ensures.items ∙ made;

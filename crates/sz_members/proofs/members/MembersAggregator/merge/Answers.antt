@@ -12,4 +12,5 @@ returns-clause-ok c =
     let others = c.other.inside.tally.entries in
     let new = c.put_all.new.tally.entries in
     members_joined _ _ _ _ c.self.view_is c.other.view_is (map seen_repeated new) c.self.inside.room c.requires.same
-    (subst (λ es. rows_of table (emits_tallied new) ≡ rows_of table (emits_tallied es ++ emits_tallied others)) c.reserve.ensures.entries c.put_all.ensures.value.rows)
+    (subst (λ es. rows_of table (emits_tallied new) ≡ rows_of table (emits_tallied es ++ emits_tallied others))
+    c.reserve.ensures.entries c.put_all.ensures.value.rows)

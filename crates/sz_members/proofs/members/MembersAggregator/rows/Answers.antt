@@ -9,6 +9,8 @@ use Rattle.sz_members.proofs.members.MembersAggregator.rows.Goals as goal
 
 pub returns : goal.returns
 returns c = record {
-  value = IfOk-weaker c.rows_of.result (λ rows. rows ≡ rows_of (seen_table c.self.inside.table.now) (emits_tallied c.self.inside.tally.entries))
-      (λ rows. rows ≡ rows_of_members c.args.self.now) (λ rows is. is ∙ ap rows_of_members c.self.view_is) c.rows_of.ensures.value;
+  value = IfOk-weaker c.rows_of.result
+      (λ rows. rows ≡ rows_of (seen_table c.self.inside.table.now) (emits_tallied c.self.inside.tally.entries))
+      (λ rows. rows ≡ rows_of_members c.args.self.now)
+      (λ rows is. is ∙ ap rows_of_members c.self.view_is) c.rows_of.ensures.value;
 }

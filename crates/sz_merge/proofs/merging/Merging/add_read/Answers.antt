@@ -25,10 +25,12 @@ returns-in_err-now-clause-stopped c before are =
 
 pub invariant_of-result : goal.invariant_of-result
 invariant_of-result c =
-    read_bound (held_by c.self.inside.groups.items) (held_by c.in_ok-now.now.items) c.args.bytes.now c.self.inside.bound c.in_ok-more.more
+    read_bound (held_by c.self.inside.groups.items)
+    (held_by c.in_ok-now.now.items) c.args.bytes.now c.self.inside.bound c.in_ok-more.more
     c.in_ok-more.field-0-1.now c.self.invariant.is c.in_ok-more.ensures.value c.in_ok-now.ensures.value
 
 pub returns-clause-ok : goal.returns-clause-ok
 returns-clause-ok c before are =
-    read_added (held_by c.self.inside.groups.items) before c.args.bytes.now (held_by c.in_ok-now.now.items) (subst (λ l. AreOf l before) (sym c.self.view_is) are)
+    read_added (held_by c.self.inside.groups.items) before c.args.bytes.now (held_by c.in_ok-now.now.items)
+    (subst (λ l. AreOf l before) (sym c.self.view_is) are)
     (subst (λ l. FitsBehind l c.args.bytes.now) (sym c.self.view_is) c.requires.fits) c.in_ok-now.ensures.value

@@ -8,8 +8,9 @@ use Rattle.sz_scope.proofs.scopes.Scopes.find.Goals as goal
 pub returns-in_err-name : goal.returns-in_err-name
 returns-in_err-name c = record {
   value = ap (option_map (λ x. x.now)) c.from_residual.ensures
-      ∙ not_found c.self.inside.entries.items c.args.name.now (λ d w. true) c.self.invariant (c.in_err-name.ensures.value)
-      ∙ ap (λ blocks. found c.args.name.now (blocks_where (λ d w. true) blocks)) c.self.view_is ∙ found_plain c.args.name.now c.args.self.now;
+      ∙ not_found c.self.inside.entries.items c.args.name.now (λ d w. true) c.self.invariant
+      (c.in_err-name.ensures.value) ∙ ap (λ blocks. found c.args.name.now (blocks_where (λ d w. true) blocks))
+      c.self.view_is ∙ found_plain c.args.name.now c.args.self.now;
 }
 
 -- one with a place has its newest entry there
@@ -20,13 +21,16 @@ index-requires c =
 
 pub newest_entry-requires-clause-within : goal.newest_entry-requires-clause-within
 newest_entry-requires-clause-within c =
-    (lookup c.self.inside.entries.items c.args.name.now c.self.invariant (c.in_ok-name.ensures.value) c.index.ensures c.as_slice.ensures.value).within
+    (lookup c.self.inside.entries.items c.args.name.now c.self.invariant (c.in_ok-name.ensures.value)
+    c.index.ensures c.as_slice.ensures.value).within
 
 pub returns : goal.returns
 returns c =
-    let look = lookup c.self.inside.entries.items c.args.name.now c.self.invariant (c.in_ok-name.ensures.value) c.index.ensures c.as_slice.ensures.value in
+    let look = lookup c.self.inside.entries.items c.args.name.now c.self.invariant (c.in_ok-name.ensures.value)
+    c.index.ensures c.as_slice.ensures.value in
     record {
       value = c.newest_entry.ensures.value c.in_ok-name.name look.latest
-          ∙ looked_up c.self.inside.entries.items c.args.name.now (λ d w. true) c.self.invariant (c.in_ok-name.ensures.value) look
-          ∙ ap (λ blocks. found c.args.name.now (blocks_where (λ d w. true) blocks)) c.self.view_is ∙ found_plain c.args.name.now c.args.self.now;
+          ∙ looked_up c.self.inside.entries.items c.args.name.now (λ d w. true) c.self.invariant
+          (c.in_ok-name.ensures.value) look ∙ ap (λ blocks. found c.args.name.now (blocks_where (λ d w. true) blocks))
+          c.self.view_is ∙ found_plain c.args.name.now c.args.self.now;
     }

@@ -9,7 +9,8 @@ pub returns-in_err-name : goal.returns-in_err-name
 returns-in_err-name c =
     record {
       value = ap (option_map (λ x. x.now)) c.from_residual.ensures
-          ∙ not_found c.self.inside.entries.items c.args.name.now (sees c.args.sight) c.self.invariant (c.in_err-name.ensures.value)
+          ∙ not_found c.self.inside.entries.items c.args.name.now (sees c.args.sight) c.self.invariant
+          (c.in_err-name.ensures.value)
           ∙ ap (λ blocks. found c.args.name.now (seen_blocks c.args.sight blocks)) c.self.view_is;
     }
 
@@ -21,13 +22,16 @@ index-requires c =
 
 pub find_seen-requires-clause-within : goal.find_seen-requires-clause-within
 find_seen-requires-clause-within c =
-    (lookup c.self.inside.entries.items c.args.name.now c.self.invariant (c.in_ok-name.ensures.value) c.index.ensures c.as_slice.ensures.value).within
+    (lookup c.self.inside.entries.items c.args.name.now c.self.invariant (c.in_ok-name.ensures.value)
+    c.index.ensures c.as_slice.ensures.value).within
 
 pub returns : goal.returns
 returns c =
-    let look = lookup c.self.inside.entries.items c.args.name.now c.self.invariant (c.in_ok-name.ensures.value) c.index.ensures c.as_slice.ensures.value in
+    let look = lookup c.self.inside.entries.items c.args.name.now c.self.invariant (c.in_ok-name.ensures.value)
+    c.index.ensures c.as_slice.ensures.value in
     record {
       value = c.find_seen.ensures.value c.in_ok-name.name look.latest
-          ∙ looked_up c.self.inside.entries.items c.args.name.now (sees c.args.sight) c.self.invariant (c.in_ok-name.ensures.value) look
+          ∙ looked_up c.self.inside.entries.items c.args.name.now (sees c.args.sight) c.self.invariant
+          (c.in_ok-name.ensures.value) look
           ∙ ap (λ blocks. found c.args.name.now (seen_blocks c.args.sight blocks)) c.self.view_is;
     }

@@ -10,4 +10,5 @@ returns-clause-place c done job frame most emits read over h rest on =
     let self = c.args.self.now in
     got_there self.round.records.ends (self.closed - 1) c.end.result c.end.ensures.value
     ∙ ends_at self c.args.passed c.requires.some done job frame most emits read over h rest on
-    ∙ ap (λ n. place_after frame full done.bytes done.records rest (n + self.closed - done.records)) (sym c.records_run.ensures.value)
+    ∙ ap (λ n. place_after frame full done.bytes done.records rest (n + self.closed - done.records))
+    (sym c.records_run.ensures.value)

@@ -14,4 +14,5 @@ pub returns-clause-taken : goal.returns-clause-taken
 returns-clause-taken c =
     let old = c.args.self.now in
     feeds_piece old.framer c.feed.new.self c.args.piece.now old.round.records c.feed.new.into c.in_ok-self.field-0
-    c.in_ok-self.ensures.fed c.in_ok-self.ensures.ends c.in_ok-self.ensures.known (sym c.is_empty.ensures ∙ c.if-is_empty.false)
+    c.in_ok-self.ensures.fed c.in_ok-self.ensures.ends c.in_ok-self.ensures.known
+    (sym c.is_empty.ensures ∙ c.if-is_empty.false)

@@ -10,6 +10,7 @@ pub returns-clause-ok : goal.returns-clause-ok
 returns-clause-ok c = elim c.match-append.branch [
   | in-Ok w ↦ rw w.result-is (
       plain_joins _ _ (ap (λ a. a.table) c.self.view_is) _ c.requires.same
-      (ap (map seen_kept) w.in-Ok.ensures.items ∙ map-append seen_kept _ _ ∙ (λ i. (c.self.view_is i).emits ++ (c.other.view_is i).emits)))
+      (ap (map seen_kept) w.in-Ok.ensures.items ∙ map-append seen_kept _ _
+      ∙ (λ i. (c.self.view_is i).emits ++ (c.other.view_is i).emits)))
   | in-Err w ↦ rw w.result-is tt
 ]

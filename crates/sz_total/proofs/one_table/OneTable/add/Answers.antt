@@ -13,12 +13,14 @@ add_to_part-requires-clause-some c = some_parts c.self.inside.parts.items c.self
 pub add_to_part-requires-clause-of_table : goal.add_to_part-requires-clause-of_table
 add_to_part-requires-clause-of_table c =
     let same = ap (λ (s : TableState). s.count) c.self.view_is in
-    longer_parts (seen_table c.self.inside.table.now) c.self.inside.count (2 ^ 63 - 1) (omega (arith, same, c.requires.room)) c.self.inside.parts.items
+    longer_parts (seen_table c.self.inside.table.now) c.self.inside.count (2 ^ 63 - 1)
+    (omega (arith, same, c.requires.room)) c.self.inside.parts.items
     c.self.invariant.aggregates
 
 pub invariant_of-self-2 : goal.invariant_of-self-2
 invariant_of-self-2 c =
-    kept_taken (seen_table c.self.inside.table.now) c.self.inside.count c.args.emit.now c.self.inside.parts.items c.add_to_part.new.parts.items
+    kept_taken (seen_table c.self.inside.table.now)
+    c.self.inside.count c.args.emit.now c.self.inside.parts.items c.add_to_part.new.parts.items
     c.self.invariant c.in_ok-add_to_part.ensures.ok
 
 pub returns-clause-ok : goal.returns-clause-ok

@@ -4,4 +4,5 @@ use Rattle.sz_total.proofs.one_table.OneTable.reserve.Goals as goal
 
 pub returns-clause-kept : goal.returns-clause-kept
 returns-clause-kept c =
-    changes_both c.args.self.now c.deal_beside.new.self c.reserve_beside.new.self c.deal_beside.ensures.kept c.reserve_beside.ensures.kept
+    changes_both c.args.self.now c.deal_beside.new.self c.reserve_beside.new.self c.deal_beside.ensures.kept
+    c.reserve_beside.ensures.kept

@@ -14,5 +14,6 @@ returns-clause-within c =
     on_ok_weaker c.all_rows.result
     (λ bounded. subst (λ s. SumsAreWithin (2 ^ 63 * s.count) (table_shown s)) c.self.view_is
     (table_within (seen_table c.self.inside.table.now) c.self.inside.count (entries_of c.self.inside.parts.items)
-    (all_of_table (seen_table c.self.inside.table.now) c.self.inside.count c.self.inside.parts.items c.self.invariant.aggregates) bounded))
+    (all_of_table (seen_table c.self.inside.table.now)
+    c.self.inside.count c.self.inside.parts.items c.self.invariant.aggregates) bounded))
     c.all_rows.ensures.bounded

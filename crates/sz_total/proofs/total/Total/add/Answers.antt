@@ -7,7 +7,8 @@ use Rattle.sz_total.proofs.total.Total.add.Goals as goal
 
 pub add_at-requires : goal.add_at-requires
 add_at-requires c = record {
-  fits = room_for c.self.inside.tables.now c.self.inside.count c.self.inside.states.items c.self.invariant.are c.args.emit.now
+  fits = room_for c.self.inside.tables.now c.self.inside.count c.self.inside.states.items
+      c.self.invariant.are c.args.emit.now
       (subst (λ s. IsEmitTo s.tables c.args.emit.now) (sym c.self.view_is) c.requires.fits)
       (subst (λ s. s.count < 2 ^ 63) (sym c.self.view_is) c.requires.room);
   short = c.requires.short;
@@ -15,10 +16,11 @@ add_at-requires c = record {
 
 pub invariant_of-self-2 : goal.invariant_of-self-2
 invariant_of-self-2 c =
-    total_still c.self.inside.tables.now c.self.inside.count c.args.emit.now c.self.inside.states.items c.add_at.new.states.items c.self.invariant
-    c.in_ok-add_at.ensures.ok (subst (λ s. IsEmitTo s.tables c.args.emit.now) (sym c.self.view_is) c.requires.fits) c.requires.short
+    total_still c.self.inside.tables.now c.self.inside.count c.args.emit.now c.self.inside.states.items
+    c.add_at.new.states.items c.self.invariant c.in_ok-add_at.ensures.ok
+    (subst (λ s. IsEmitTo s.tables c.args.emit.now) (sym c.self.view_is) c.requires.fits) c.requires.short
 
 pub returns-clause-ok : goal.returns-clause-ok
 returns-clause-ok c =
-    total_gained c.self.inside.tables.now c.self.inside.count c.args.emit.now c.self.inside.states.items c.add_at.new.states.items c.args.self.now
-    c.self.view_is c.self.invariant.are c.in_ok-add_at.ensures.ok
+    total_gained c.self.inside.tables.now c.self.inside.count c.args.emit.now c.self.inside.states.items
+    c.add_at.new.states.items c.args.self.now c.self.view_is c.self.invariant.are c.in_ok-add_at.ensures.ok

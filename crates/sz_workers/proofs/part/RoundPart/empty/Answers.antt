@@ -10,12 +10,16 @@ use Rattle.sz_workers.proofs.part.RoundPart.empty.Goals as goal
 -- the tables of a sound program have their weights
 pub new-requires : goal.new-requires
 new-requires g c =
-    record { weights = subst HaveTheirWeights (sym c.requires.decls) (have_their_weights g.N.RoundName.job.compiled c.requires.job.sound) }
+    record {
+      weights = subst HaveTheirWeights (sym c.requires.decls)
+          (have_their_weights g.N.RoundName.job.compiled c.requires.job.sound);
+    }
 
 -- they hold no shard
 pub returns : goal.returns
 returns g c = record {
-  value = holds_none g.N.RoundName.job g.N.RoundName.round c.in_ok-total.total c.no_faults.result c.requires.job c.requires.round
-      (subst (λ ts. IsNew declarations emit_count shown ts c.in_ok-total.total) c.requires.decls c.in_ok-total.ensures.empty)
-      (ap (λ (f : FirstFaults). f.faults) c.no_faults.ensures.value) (ap (λ (f : FirstFaults). f.most) c.no_faults.ensures.value);
+  value = holds_none g.N.RoundName.job g.N.RoundName.round c.in_ok-total.total c.no_faults.result c.requires.job
+      c.requires.round (subst (λ ts. IsNew declarations emit_count shown ts c.in_ok-total.total)
+      c.requires.decls c.in_ok-total.ensures.empty) (ap (λ (f : FirstFaults). f.faults) c.no_faults.ensures.value)
+      (ap (λ (f : FirstFaults). f.most) c.no_faults.ensures.value);
 }

@@ -1,6 +1,0 @@
--- The law is one of the worked examples.
-use Rattle.sz_check_laws.proofs.StandardFacts.{small_is_judged}
-use Rattle.sz_check_laws.proofs.laws.a_small_program_is_judged.Goals as goal
-
-pub returns : goal.returns
-returns c = record { value = small_is_judged }

@@ -1,2 +1,0 @@
--- what the proofs of this crate rest on
-mod TableLemmas

@@ -1,6 +1,0 @@
--- The law is a lemma.
-use Rattle.sz_gates.proofs.ChainLemmas.{one_list}
-use Rattle.sz_gates.proofs.laws.one_list.Goals as goal
-
-pub returns : goal.returns
-returns c = record { law = one_list }

@@ -1,6 +1,0 @@
-pub mod FindLemmas
-pub mod JobLemmas
-pub mod RoundLemmas
-pub mod FollowLemmas
-mod PutLemmas
-mod NumberLemmas

@@ -1,9 +1,0 @@
--- The kills so far are read, and the others are still to come.
-use Rattle.std.proofs.Common.{◌≡◌, ◌-◌, ◌≤◌}
-use Rattle.sz_save_format.specs.Decoding.{many_at, counted_at}
-use Rattle.sz_save_format.proofs.FrontLemmas.{after}
-use Rattle.sz_journal_format.specs.Reading.{triple_at}
-use Rattle.sz_journal_format.proofs.parts.read_kills.Given as goal
-
-abbrev pub invariant-loop : goal.invariant-loop
-invariant-loop l = (counted_at triple_at l.flat ≡ after l.kills (many_at triple_at (l.count - l.counter) l.rest)) × (l.counter ≤ l.count)

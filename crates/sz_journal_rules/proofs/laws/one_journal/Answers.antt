@@ -1,6 +1,0 @@
--- The law is a lemma.
-use Rattle.sz_journal_rules.proofs.JournalLemmas.{one_journal}
-use Rattle.sz_journal_rules.proofs.laws.one_journal.Goals as goal
-
-pub returns : goal.returns
-returns c = record { law = one_journal }

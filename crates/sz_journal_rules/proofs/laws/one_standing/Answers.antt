@@ -1,6 +1,0 @@
--- The law is a lemma.
-use Rattle.sz_journal_rules.proofs.JournalLemmas.{one_standing}
-use Rattle.sz_journal_rules.proofs.laws.one_standing.Goals as goal
-
-pub returns : goal.returns
-returns c = record { law = one_standing }

@@ -1,3 +1,0 @@
--- what the public contracts rest on
-pub mod Journals
-pub mod Laws

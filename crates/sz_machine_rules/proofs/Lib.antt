@@ -1,3 +1,0 @@
-pub mod OneEnd
-pub mod RunLaws
-pub mod EmitsFit

@@ -1,5 +1,0 @@
-use Rattle.sz_machine_rules.proofs.OneEnd.{runs_to_one, statics_to_one}
-use Rattle.sz_machine_rules.proofs.laws.a_run_ends_in_one_way.Goals as goal
-
-pub returns : goal.returns
-returns c = record { one = runs_to_one; statics = statics_to_one }

@@ -1,2 +1,0 @@
--- laws of places, for the crates above as well
-pub mod NamesLemmas

@@ -1,2 +1,0 @@
--- what the public contracts rest on
-pub mod Names

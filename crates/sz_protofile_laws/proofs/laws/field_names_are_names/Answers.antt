@@ -1,5 +1,0 @@
-use Rattle.sz_protofile_laws.proofs.NameLaws.{fields_have_names}
-use Rattle.sz_protofile_laws.proofs.laws.field_names_are_names.Goals as goal
-
-pub returns : goal.returns
-returns c = record { value = λ bytes types h t d. fields_have_names bytes types h t d }

@@ -1,2 +1,0 @@
-mod LinkLemmas
-mod RankLemmas

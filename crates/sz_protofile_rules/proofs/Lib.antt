@@ -1,2 +1,0 @@
--- examples
-mod StandardFacts

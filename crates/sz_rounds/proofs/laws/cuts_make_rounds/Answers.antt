@@ -1,5 +1,0 @@
-use Rattle.sz_rounds.proofs.RangeLemmas.{makes_rounds}
-use Rattle.sz_rounds.proofs.laws.cuts_make_rounds.Goals as goal
-
-pub returns : goal.returns
-returns c = record { rounds = makes_rounds }

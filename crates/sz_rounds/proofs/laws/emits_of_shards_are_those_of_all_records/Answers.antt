@@ -1,5 +1,0 @@
-use Rattle.sz_rounds.proofs.LawLemmas.{all_emits}
-use Rattle.sz_rounds.proofs.laws.emits_of_shards_are_those_of_all_records.Goals as goal
-
-pub returns : goal.returns
-returns c = record { whole = all_emits }

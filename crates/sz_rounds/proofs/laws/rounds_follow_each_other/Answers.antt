@@ -1,5 +1,0 @@
-use Rattle.sz_rounds.proofs.OutcomeLemmas.{outcome-append}
-use Rattle.sz_rounds.proofs.laws.rounds_follow_each_other.Goals as goal
-
-pub returns : goal.returns
-returns c = record { joined = outcome-append }

@@ -1,5 +1,0 @@
--- what the public contracts rest on
-pub mod Outcomes
-pub mod Rounds
-pub mod Cuts
-pub mod Tickets

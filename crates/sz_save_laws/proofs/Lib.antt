@@ -1,9 +1,0 @@
-mod EitherLemmas
-mod SortedLemmas
-mod GroupLemmas
-mod UniqueLemmas
-mod StateLemmas
-mod JoiningLemmas
-mod EmitLemmas
-mod TableLemmas
-mod RunLemmas

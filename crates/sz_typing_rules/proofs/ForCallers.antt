@@ -1,2 +1,0 @@
--- What the crates above may cite.
-pub use Rattle.sz_typing_rules.proofs.TypeLemmas.{of_truth, of_int, of_time, of_str, of_bytes, of_array, of_mapping}

@@ -1,3 +1,0 @@
--- what the public contracts rest on
-pub mod Types
-pub mod Laws
