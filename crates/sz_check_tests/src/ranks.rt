@@ -2,8 +2,8 @@
 use std::alloc::Global;
 use std::fmt::Write;
 use sz_protofile::{FieldIn, Line, Sort};
-use sz_protofile_names::{all_fields, sound_lines};
-use sz_protofile_types::{Ranks, message_ranks};
+use sz_protofile_names::sound_lines;
+use sz_protofile_types::{Ranks, all_fields, message_ranks};
 
 // In each row a file stands before `=>`, and after it each field of a message's type, and whether it leads back.
 const ROWS: &str = r##" =>
