@@ -1,5 +1,6 @@
 -- What a contract sees of a ledger and of a pass.
-use Rattle.std.specs.Prelude.{◌≡◌, ℕ, ◌+◌, ◌*◌, ◌^◌, ◌<◌, ◌≤◌, Bool, true, false, if◌then◌else◌, nat_lt, Option, Some, None, List, [], ◌∷◌, ◌++◌}
+use Rattle.std.specs.Prelude.{◌≡◌, ℕ, ◌+◌, ◌*◌, ◌^◌, ◌<◌, ◌≤◌, Bool, true, false, if◌then◌else◌, nat_lt, Option, Some}
+use Rattle.std.specs.Prelude.{None, List, [], ◌∷◌, ◌++◌}
 use Rattle.std.specs.Prelude.{length, map, drop, replicate, slice_index_or}
 use mathlib.Core.Option.{some}
 use lib.ListN.{get_elem?}
@@ -55,7 +56,17 @@ pass_data z limit v = record {
 
 -- the first pass of a new ledger
 abbrev pub first_pass : LedgerData → ℕ → PassData
-first_pass ledger limit = record { ledger = ledger; number = 0; made = 1; limit = limit; seen = []; mine = []; joined = []; lane = 0; lent = [] }
+first_pass ledger limit = record {
+  ledger = ledger;
+  number = 0;
+  made = 1;
+  limit = limit;
+  seen = [];
+  mine = [];
+  joined = [];
+  lane = 0;
+  lent = [];
+}
 
 -- the state that the ledger of a pass has after a history
 abbrev pub ends_in : PassData → List Entry → LedgerState
@@ -163,7 +174,8 @@ AllBlank n [] = Unit {0}
 AllBlank n (r ∷ rs) = (r ≡ replicate n false) × AllBlank n rs
 
 -- what the type of a pass keeps. Its marks tell for which tickets it found no number
-pub record IsSound (v : View) (slots : List (ℕ × Slot)) (vain : Bool) (marks : List Bool) (limit : ℕ) (rows : List (List Bool)) : Type 0 where
+pub record IsSound (v : View) (slots : List (ℕ × Slot)) (vain : Bool) (marks : List Bool) (limit : ℕ)
+    (rows : List (List Bool)) : Type 0 where
   pub live : 0 < v.weight
   pub idle : v.lane ≡ 0 → slots ≡ []
   pub busy : (i : ℕ) → v.lane ≡ i + 1 → (i < v.lanes) × (slots ≡ (i, None) ∷ [])

@@ -1,5 +1,6 @@
 -- The rule of the table, and what each step tells.
-use Rattle.std.specs.Prelude.{◌≡◌, ◌≢◌, ◌⊎◌, ℕ, zero, suc, ◌+◌, ◌*◌, ◌^◌, ◌<◌, ◌≤◌, ◌==◌, Bool, MatchBool, true, false, if◌then◌else◌, min, Option, Some, None}
+use Rattle.std.specs.Prelude.{◌≡◌, ◌≢◌, ◌⊎◌, ℕ, zero, suc, ◌+◌, ◌*◌, ◌^◌, ◌<◌, ◌≤◌, ◌==◌, Bool, MatchBool, true, false}
+use Rattle.std.specs.Prelude.{if◌then◌else◌, min, Option, Some, None}
 use Rattle.std.specs.Prelude.{List, [], ◌∷◌, ◌++◌, length, slice_index, slice_index_or}
 use mathlib.Core.Option.{Option as Maybe, some}
 use lib.ListN.{get_elem?}
@@ -51,7 +52,8 @@ abbrev pub lane_data : PlanData → List ℕ → LaneData
 lane_data p shards = record { plan = p; shards = shards }
 
 -- the words and the slots show which lanes are out, and the lists of those that are home
-pub record ShowsLanes (p : PlanData) (lanes : ℕ) (words : List ℕ) (homes : List (Maybe Slot)) (outs : List ℕ) (lists : List (List ℕ)) : Type 0 where
+pub record ShowsLanes (p : PlanData) (lanes : ℕ) (words : List ℕ) (homes : List (Maybe Slot)) (outs : List ℕ)
+    (lists : List (List ℕ)) : Type 0 where
   pub counts : (length homes ≡ lanes) × (length outs ≡ lanes) × (length lists ≡ lanes)
   pub turns : (i : ℕ) → i < lanes → slice_index words (turn_at p i) ≡ slice_index outs i
   pub home : (i : ℕ) → i < lanes → slice_index outs i ≡ 0 → get_elem? homes i ≡ some (some (Some (lane_data p (slice_index_or lists i []))))
@@ -114,7 +116,8 @@ abbrev pub IsOut : ℕ → LedgerState → ℕ → List ℕ → Type 0
 IsOut lanes x i shards = (i < lanes) × (slice_index x.outs i ≡ 1) × (list_of x i ≡ shards)
 
 -- what a live view knows is true of the history, which leads to the state x
-pub record IsTrueOf (p : PlanData) (lanes : ℕ) (log : List Entry) (x : LedgerState) (made : ℕ) (joined : List Account) (v : View) : Type 0 where
+pub record IsTrueOf (p : PlanData) (lanes : ℕ) (log : List Entry) (x : LedgerState) (made : ℕ) (joined : List Account)
+    (v : View) : Type 0 where
   pub plan : v.plan ≡ p
   pub lanes_are : v.lanes ≡ lanes
   pub seen : StartsWith log v.seen
@@ -140,7 +143,8 @@ pub record AreNumbered (views : List View) (made : ℕ) (joined : List Account) 
   pub away : (k : ℕ) (a : Account) → get_elem? joined k ≡ some a → (id : ℕ) (v : View) → IsAt views id v → ¬ (v.number ≡ a.number)
   pub once : (j k : ℕ) (a b : Account) → get_elem? joined j ≡ some a → get_elem? joined k ≡ some b → a.number ≡ b.number → j ≡ k
   pub covers : (n : ℕ) → n < made
-      → ((id : ℕ) × (v : View) × IsAt views id v × (v.number ≡ n)) ⊎ ((k : ℕ) × (a : Account) × (get_elem? joined k ≡ some a) × (a.number ≡ n))
+      → ((id : ℕ) × (v : View) × IsAt views id v × (v.number ≡ n))
+      ⊎ ((k : ℕ) × (a : Account) × (get_elem? joined k ≡ some a) × (a.number ≡ n))
   pub whole : weights views ≡ made
 
 -- each lane that is out is with one live view
@@ -227,7 +231,8 @@ Lent i v found w = MatchBool (found == 0)
 abbrev pub IsAsked : ℕ → Me Slot View → Option LaneData → Me Slot View → Type 0
 IsAsked i v None w = CallsAt v (LaneOut i) (Lane false) w
 IsAsked i v (Some lane) w =
-    Called (view_of v) (LaneOut i) [] (Lane true) (i + 1) lane.shards (view_of w) × (lane ≡ lane_data (view_of v).plan (list_seen (view_of w) i))
+    Called (view_of v) (LaneOut i) [] (Lane true) (i + 1) lane.shards (view_of w)
+    × (lane ≡ lane_data (view_of v).plan (list_seen (view_of w) i))
     × (slots_out w ≡ (i, None) ∷ slots_out v)
 
 -- lane i is home again, longer by these shards
