@@ -2,38 +2,20 @@
 //! joins saved tables, or tests itself.
 #![tactic(auto)]
 
-mod streams;
-
-use crate::streams::stand_in;
-use std::alloc::{AllocError, Global};
+use std::alloc::Global;
 use std::fs::Files;
-use std::io::{self, Input, Stderr, Stdout};
+use std::io::{Input, Stderr, Stdout};
 use std::process::ExitCode;
-use std::thread::{Builder, Threads};
-use std::{env, thread};
+use std::thread::{self, Builder, Threads};
 use sz_disk::OsDisk;
 use sz_io::{NoGate, OsFiles, OsSink, write_line};
+use sz_process::{Stream, given_words, stand_ins};
 use szl::{Stack, Status, szl_disk_main_on};
 
-/// The words of the command line without the program's name. Words that aren't UTF-8 are no command line.
-fn given_words(rt: &HostRuntime) -> Result<Vec<String>, AllocError> {
-    let mut words = Vec::new(rt.alloc());
-    match env::args(rt) {
-        Ok(given) => {
-            for word in given.skip(1) {
-                words.push(word)?;
-            }
-        }
-        Err(error) if error.kind() == io::ErrorKind::OutOfMemory => return Err(AllocError),
-        Err(_) => {}
-    }
-    Ok(words)
-}
-
-/// Tells that there is no memory for the words of the command line.
-fn tell_no_memory(err: Stderr) -> ExitCode {
-    write_line(&mut OsSink::new(err), b"out of memory\n");
-    ExitCode::from(Status::NoMemory.code())
+/// Tells why no command line is run, and gives the exit status.
+fn tell(err: Stderr, line: &[u8], status: Status) -> ExitCode {
+    write_line(&mut OsSink::new(err), line);
+    ExitCode::from(status.code())
 }
 
 /// Runs the command line of these words over real files and streams, with this disk, on the stack that there is, and gives the exit status.
@@ -63,10 +45,14 @@ const STACK_BYTES: usize = 2 << 30;
 // Where there is no room for the stack, an eighth of it is enough. Where no thread can be started, this one does the work itself, for programs
 // whose types are low.
 fn main(rt: HostRuntime) -> ExitCode {
-    let _streams = [stand_in(&rt), stand_in(&rt), stand_in(&rt)];
+    let _stand_ins = match stand_ins(&rt, rt.stdin(), rt.stdout(), rt.stderr()) {
+        Ok(them) => them,
+        Err(Stream::Input) => return tell(rt.stderr(), b"read failed\n", Status::ReadFailed),
+        Err(_) => return tell(rt.stderr(), b"write failed\n", Status::WriteFailed),
+    };
     let alloc: Global = rt.alloc();
     let Ok(words) = given_words(&rt) else {
-        return tell_no_memory(rt.stderr());
+        return tell(rt.stderr(), b"out of memory\n", Status::NoMemory);
     };
     let code = thread::scope(thread::scope_env(), &rt, |scope| {
         for part in [1, 2, 4, 8] {

@@ -1,37 +1,19 @@
 //! `szl-explain` says why a program is refused, and shows where.
 #![tactic(auto)]
 
-mod streams;
-
-use crate::streams::stand_in;
-use std::alloc::{AllocError, Global};
+use std::alloc::Global;
 use std::fs::Files;
-use std::io::{self, Input, Stderr, Stdout};
+use std::io::{Input, Stderr, Stdout};
 use std::process::ExitCode;
-use std::thread::{Builder, Threads};
-use std::{env, thread};
+use std::thread::{self, Builder, Threads};
 use sz_io::{OsFiles, OsSink, write_line};
+use sz_process::{Stream, given_words, stand_ins};
 use szl_explain::{Status, explain_file};
 
-/// The words of the command line without the program's name. Words that aren't UTF-8 are no command line.
-fn given_words(rt: &HostRuntime) -> Result<Vec<String>, AllocError> {
-    let mut words = Vec::new(rt.alloc());
-    match env::args(rt) {
-        Ok(given) => {
-            for word in given.skip(1) {
-                words.push(word)?;
-            }
-        }
-        Err(error) if error.kind() == io::ErrorKind::OutOfMemory => return Err(AllocError),
-        Err(_) => {}
-    }
-    Ok(words)
-}
-
-/// Tells that there is no memory for the words of the command line or for the thread, and gives the exit status.
-fn tell_no_memory(err: Stderr) -> u8 {
-    write_line(&mut OsSink::new(err), b"out of memory\n");
-    Status::NoMemory.code()
+/// Tells why nothing is explained, and gives the exit status.
+fn tell(err: Stderr, line: &[u8], status: Status) -> u8 {
+    write_line(&mut OsSink::new(err), line);
+    status.code()
 }
 
 /// Explains the program that these words name, over real files and streams, and gives the exit status.
@@ -55,10 +37,19 @@ const STACK_BYTES: usize = 2 << 30;
 
 // Where no thread with a large stack can be started there is no explanation, which counts as want of memory.
 fn main(rt: HostRuntime) -> ExitCode {
-    let _streams = [stand_in(&rt), stand_in(&rt), stand_in(&rt)];
+    let err = rt.stderr();
+    let _stand_ins = match stand_ins(&rt, rt.stdin(), rt.stdout(), err) {
+        Ok(them) => them,
+        Err(Stream::Input) => return ExitCode::from(tell(
+            err,
+            b"read failed\n",
+            Status::ReadFailed,
+        )),
+        Err(_) => return ExitCode::from(tell(err, b"write failed\n", Status::WriteFailed)),
+    };
     let alloc: Global = rt.alloc();
     let Ok(words) = given_words(&rt) else {
-        return ExitCode::from(tell_no_memory(rt.stderr()));
+        return ExitCode::from(tell(err, b"out of memory\n", Status::NoMemory));
     };
     let code = thread::scope(thread::scope_env(), &rt, |scope| {
         for part in [1, 2, 4, 8] {
@@ -71,7 +62,7 @@ fn main(rt: HostRuntime) -> ExitCode {
                 return work.join(&rt);
             }
         }
-        tell_no_memory(rt.stderr())
+        tell(rt.stderr(), b"out of memory\n", Status::NoMemory)
     });
     ExitCode::from(code)
 }
