@@ -1,5 +1,5 @@
 -- The answer for settings that may name a `.proto` file, from that where its types are known.
-use Rattle.std.proofs.Common.{◌≡◌, ◌≢◌, ℕ, zero, suc, ◌+◌, ◌-◌, ◌≤◌, ◌⊎◌, inl, inr, List, [], ◌∷◌, ◌++◌, Bool, true, false, true≢false}
+use Rattle.std.proofs.Common.{◌≡◌, ◌≢◌, ℕ, suc, ◌-◌, ◌≤◌, ◌⊎◌, inl, inr, List, [], ◌∷◌, ◌++◌, Bool, true, false, true≢false}
 use Rattle.std.proofs.Common.{Option, Some, None, refl, sym, ap, ◌∙◌, subst, arith, append_assoc}
 use Rattle.std.specs.Prelude.{IfSome, IsSome, IsTrue, unwrap_or, option_to_list, Result, Ok, Err, OnOk}
 use Rattle.std.specs.Io.KnownBytes.{IsAtEnd}
@@ -51,19 +51,8 @@ decides_after name (Ok output) o rose h = says_after name o h
 decides_after name (Err failure.ReadFailed) o rose h = h
 decides_after name (Err failure.WriteFailed) o rose h = h
 decides_after name (Err failure.NoMemory) o rose h = h
-decides_after name (Err failure.Usage) o rose h = says_after name o h
-decides_after name (Err (failure.Refused r)) o rose h = says_after name o h
-decides_after name (Err (failure.Faulted n f)) o rose h = says_after name o h
-decides_after name (Err (failure.Lost n)) o rose h = says_after name o h
-decides_after name (Err (failure.Damaged b)) o rose h = says_after name o h
-decides_after name (Err (failure.Limit b)) o rose h = says_after name o h
-decides_after name (Err (failure.BadTables n)) o rose h = says_after name o h
-decides_after name (Err (failure.OtherTables n)) o rose h = says_after name o h
-decides_after name (Err (failure.TablesLimit n)) o rose h = says_after name o h
-decides_after name (Err failure.OtherJob) o rose h = says_after name o h
-decides_after name (Err (failure.JournalDamaged n)) o rose h = says_after name o h
 decides_after name (Err failure.DiskFailed) o rose h = absurd h
-decides_after name (Err (failure.BadProtoFile f)) o rose h = says_after name o h
+decides_after name (Err _) o rose h = says_after name o h
 
 -- the bytes that files hold for settings that name a program are those that they hold later
 held_before : (held later : List ℕ → Option (List ℕ)) → ((name : List ℕ) → later name ≡ held name) → (s : Settings) (name : List ℕ) → NamesProgram s name
@@ -192,19 +181,7 @@ module _ {F : Type 0} (the_files : files.Ghosts F) (s : Settings) (name : List �
       let g = every_file_is_read r.bytes in
       failed_file file_name new failure.NoMemory r g.file g.read (λ reading cut. tt)
       (λ reading cut. opened_or_none the_files old new file_name (later_names (Some s)) _ (opens_some file_name g.file reading cut) r.gained)
-  file_fails (Some file_name) new failure.Usage r = absurd r.tells
-  file_fails (Some file_name) new (failure.Refused x) r = absurd r.tells
-  file_fails (Some file_name) new (failure.Faulted k f) r = absurd r.tells
-  file_fails (Some file_name) new (failure.Lost k) r = absurd r.tells
-  file_fails (Some file_name) new (failure.Damaged b) r = absurd r.tells
-  file_fails (Some file_name) new (failure.Limit b) r = absurd r.tells
-  file_fails (Some file_name) new (failure.BadTables k) r = absurd r.tells
-  file_fails (Some file_name) new (failure.OtherTables k) r = absurd r.tells
-  file_fails (Some file_name) new (failure.TablesLimit k) r = absurd r.tells
-  file_fails (Some file_name) new failure.OtherJob r = absurd r.tells
-  file_fails (Some file_name) new (failure.JournalDamaged k) r = absurd r.tells
-  file_fails (Some file_name) new failure.DiskFailed r = absurd r.tells
-  file_fails (Some file_name) new failure.WriteFailed r = absurd r.tells
+  file_fails (Some file_name) new _ r = absurd r.tells
 
   -- the file's types are known, and the rest is answered with these
   pub file_known : (file_name : Option (List ℕ)) (mid new : F) (types : List TypeShape) (answer : Result (List ℕ) Failure)

@@ -179,41 +179,15 @@ is_job program slots s job is sound fit bounds =
 pub decides_still : (answer : Result (List ℕ) Failure) (outcome : Answer) (rose : Type 0) → Decides answer outcome ⊥ → Decides answer outcome rose
 decides_still (Ok output) outcome rose h = h
 decides_still (Err failure.ReadFailed) outcome rose h = absurd h.0
-decides_still (Err failure.WriteFailed) outcome rose h = h
-decides_still (Err failure.NoMemory) outcome rose h = h
-decides_still (Err failure.Usage) outcome rose h = h
-decides_still (Err (failure.Refused r)) outcome rose h = h
-decides_still (Err (failure.Faulted n f)) outcome rose h = h
-decides_still (Err (failure.Lost n)) outcome rose h = h
-decides_still (Err (failure.Damaged b)) outcome rose h = h
-decides_still (Err (failure.Limit b)) outcome rose h = h
-decides_still (Err (failure.BadTables n)) outcome rose h = h
-decides_still (Err (failure.OtherTables n)) outcome rose h = h
-decides_still (Err (failure.TablesLimit n)) outcome rose h = h
-decides_still (Err failure.OtherJob) outcome rose h = h
-decides_still (Err (failure.JournalDamaged n)) outcome rose h = h
-decides_still (Err failure.DiskFailed) outcome rose h = h
-decides_still (Err (failure.BadProtoFile n)) outcome rose h = h
+decides_still (Err _) outcome rose h = h
 
 -- and no read failed
 pub not_read : (answer : Result (List ℕ) Failure) (outcome : Answer) → Decides answer outcome ⊥ → status_of_answer answer ≢ status.ReadFailed
 not_read (Ok output) outcome h = λ e. cc
 not_read (Err failure.ReadFailed) outcome h = absurd h.0
 not_read (Err failure.WriteFailed) outcome h = absurd h
-not_read (Err failure.NoMemory) outcome h = λ e. cc
-not_read (Err failure.Usage) outcome h = λ e. cc
-not_read (Err (failure.Refused r)) outcome h = λ e. cc
-not_read (Err (failure.Faulted n f)) outcome h = λ e. cc
-not_read (Err (failure.Lost n)) outcome h = λ e. cc
-not_read (Err (failure.Damaged b)) outcome h = λ e. cc
-not_read (Err (failure.Limit b)) outcome h = λ e. cc
-not_read (Err (failure.BadTables n)) outcome h = λ e. cc
-not_read (Err (failure.OtherTables n)) outcome h = λ e. cc
-not_read (Err (failure.TablesLimit n)) outcome h = λ e. cc
-not_read (Err failure.OtherJob) outcome h = λ e. cc
-not_read (Err (failure.JournalDamaged n)) outcome h = λ e. cc
 not_read (Err failure.DiskFailed) outcome h = absurd h
-not_read (Err (failure.BadProtoFile n)) outcome h = λ e. cc
+not_read (Err _) outcome h = λ e. cc
 
 module _ {F : Type 0} (the_files : files.Ghosts F) (frame : Frame) (name : List ℕ) (old : F) where
   -- a failure before the input is opened
@@ -246,20 +220,7 @@ module _ {F : Type 0} (the_files : files.Ghosts F) (frame : Frame) (name : List 
       (λ cut read memory. ap (λ (o : Answer). o.opens) (ap (outcome_of_statics program s cut) h.1))
       (λ cut. says (ap (outcome_of_statics program s cut) h.1 ∙ ap (λ k. outcome_faulted k (seen_fault f)) (sym h.0)))
   static_fails program s failure.NoMemory h = no_code _
-  static_fails program s failure.Usage h = absurd h
-  static_fails program s (failure.Refused r) h = absurd h
-  static_fails program s (failure.Lost n) h = absurd h
-  static_fails program s (failure.Damaged b) h = absurd h
-  static_fails program s (failure.Limit b) h = absurd h
-  static_fails program s (failure.BadTables n) h = absurd h
-  static_fails program s (failure.OtherTables n) h = absurd h
-  static_fails program s (failure.TablesLimit n) h = absurd h
-  static_fails program s failure.OtherJob h = absurd h
-  static_fails program s (failure.JournalDamaged n) h = absurd h
-  static_fails program s failure.DiskFailed h = absurd h
-  static_fails program s (failure.BadProtoFile n) h = absurd h
-  static_fails program s failure.ReadFailed h = absurd h
-  static_fails program s failure.WriteFailed h = absurd h
+  static_fails program s _ h = absurd h
 
 -- the statics are these
 module _ (program : Marked) (s : RunSettings) (slots : List Slot) (begun : statics program s.budget ≡ Done slots) where
@@ -341,20 +302,7 @@ module _ {F : Type 0} (the_files : files.Ghosts F) (types : List TypeShape) (s :
     answers = answers_unopened the_files s.frame s.input old _ (failure.Refused r) (λ e. cc) (λ cut read memory. refl) (λ cut. says refl);
   }
   text_refused failure.NoMemory h = no_memory
-  text_refused failure.Usage h = absurd h
-  text_refused (failure.Faulted n f) h = absurd h
-  text_refused (failure.Lost n) h = absurd h
-  text_refused (failure.Damaged b) h = absurd h
-  text_refused (failure.Limit b) h = absurd h
-  text_refused (failure.BadTables n) h = absurd h
-  text_refused (failure.OtherTables n) h = absurd h
-  text_refused (failure.TablesLimit n) h = absurd h
-  text_refused failure.OtherJob h = absurd h
-  text_refused (failure.JournalDamaged n) h = absurd h
-  text_refused failure.DiskFailed h = absurd h
-  text_refused (failure.BadProtoFile n) h = absurd h
-  text_refused failure.ReadFailed h = absurd h
-  text_refused failure.WriteFailed h = absurd h
+  text_refused _ h = absurd h
 
   -- the text's statements are refused
   pub statements_refused : (ss : Stms) (f : Failure) → IsShort text → HasStatements text ss → IsFailureOn (savable types s.save s.ignore_undefs ss) f
@@ -366,20 +314,7 @@ module _ {F : Type 0} (the_files : files.Ghosts F) (types : List TypeShape) (s :
         (λ cut read memory. ap (λ (o : Answer). o.opens) (ap (outcome_of_checked_run s cut) h)) (λ cut. says (ap (outcome_of_checked_run s cut) h));
   }
   statements_refused ss failure.NoMemory short has h = no_memory
-  statements_refused ss failure.Usage short has h = absurd h
-  statements_refused ss (failure.Faulted n f) short has h = absurd h
-  statements_refused ss (failure.Lost n) short has h = absurd h
-  statements_refused ss (failure.Damaged b) short has h = absurd h
-  statements_refused ss (failure.Limit b) short has h = absurd h
-  statements_refused ss (failure.BadTables n) short has h = absurd h
-  statements_refused ss (failure.OtherTables n) short has h = absurd h
-  statements_refused ss (failure.TablesLimit n) short has h = absurd h
-  statements_refused ss failure.OtherJob short has h = absurd h
-  statements_refused ss (failure.JournalDamaged n) short has h = absurd h
-  statements_refused ss failure.DiskFailed short has h = absurd h
-  statements_refused ss (failure.BadProtoFile n) short has h = absurd h
-  statements_refused ss failure.ReadFailed short has h = absurd h
-  statements_refused ss failure.WriteFailed short has h = absurd h
+  statements_refused ss _ short has h = absurd h
 
 module _ (types : List TypeShape) (text : List ℕ) where
   check_no_memory : AnswersCheck types text (Err failure.NoMemory)
@@ -389,39 +324,13 @@ module _ (types : List TypeShape) (text : List ℕ) where
   pub check_unread : (f : Failure) → IsFailureOf text f → AnswersCheck types text (Err f)
   check_unread (failure.Refused r) read = record { reading = refused r; read = read; decides = says refl }
   check_unread failure.NoMemory h = check_no_memory
-  check_unread failure.Usage h = absurd h
-  check_unread (failure.Faulted n f) h = absurd h
-  check_unread (failure.Lost n) h = absurd h
-  check_unread (failure.Damaged b) h = absurd h
-  check_unread (failure.Limit b) h = absurd h
-  check_unread (failure.BadTables n) h = absurd h
-  check_unread (failure.OtherTables n) h = absurd h
-  check_unread (failure.TablesLimit n) h = absurd h
-  check_unread failure.OtherJob h = absurd h
-  check_unread (failure.JournalDamaged n) h = absurd h
-  check_unread failure.DiskFailed h = absurd h
-  check_unread (failure.BadProtoFile n) h = absurd h
-  check_unread failure.ReadFailed h = absurd h
-  check_unread failure.WriteFailed h = absurd h
+  check_unread _ h = absurd h
 
   -- the text's statements are refused
   pub check_fails : (ss : Stms) (f : Failure) → IsShort text → HasStatements text ss → IsFailureOn (checked types ss) f → AnswersCheck types text (Err f)
   check_fails ss (failure.Refused r) short has h = record { reading = spells ss; read = (short, has); decides = says (ap outcome_of_checked h) }
   check_fails ss failure.NoMemory short has h = check_no_memory
-  check_fails ss failure.Usage short has h = absurd h
-  check_fails ss (failure.Faulted n f) short has h = absurd h
-  check_fails ss (failure.Lost n) short has h = absurd h
-  check_fails ss (failure.Damaged b) short has h = absurd h
-  check_fails ss (failure.Limit b) short has h = absurd h
-  check_fails ss (failure.BadTables n) short has h = absurd h
-  check_fails ss (failure.OtherTables n) short has h = absurd h
-  check_fails ss (failure.TablesLimit n) short has h = absurd h
-  check_fails ss failure.OtherJob short has h = absurd h
-  check_fails ss (failure.JournalDamaged n) short has h = absurd h
-  check_fails ss failure.DiskFailed short has h = absurd h
-  check_fails ss (failure.BadProtoFile n) short has h = absurd h
-  check_fails ss failure.ReadFailed short has h = absurd h
-  check_fails ss failure.WriteFailed short has h = absurd h
+  check_fails ss _ short has h = absurd h
 
   -- nothing is refused
   pub check_passes : (ss : Stms) (program : Core) (output : List ℕ) → IsShort text → HasStatements text ss → checked types ss ≡ Ok program → [] ≡ output

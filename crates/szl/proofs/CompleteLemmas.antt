@@ -12,23 +12,10 @@ use Rattle.szl.specs.Promise.{IsStatusOf, MeansSource}
 
 answered : (answer : Answer) (s : Status) → IsStatusOf answer s → s ≢ status.ReadFailed → s ≢ status.WriteFailed
     → (s ≡ status.NoMemory) ⊎ (s ≡ answer.status)
-answered answer status.Done is read written = inr is
-answered answer status.Usage is read written = inr is
-answered answer status.Program is read written = inr is
-answered answer status.RecordFault is read written = inr is
-answered answer status.Damaged is read written = inr is
 answered answer status.ReadFailed is read written = absurd (read refl)
 answered answer status.WriteFailed is read written = absurd (written refl)
-answered answer status.ShardLost is read written = inr is
 answered answer status.NoMemory is read written = inl refl
-answered answer status.Limit is read written = inr is
-answered answer status.BadTables is read written = inr is
-answered answer status.OtherTables is read written = inr is
-answered answer status.TablesLimit is read written = inr is
-answered answer status.OtherJob is read written = inr is
-answered answer status.JournalDamaged is read written = inr is
-answered answer status.DiskFailed is read written = inr is
-answered answer status.BadProtoFile is read written = inr is
+answered answer _ is read written = inr is
 
 pub completes : {F O E : Type 0} (the_files : files.Ghosts F) (the_out : sink.Ghosts O) (the_err : sink.Ghosts E) (words : List (List ℕ))
     (s : Status) (files new_files : F) (out new_out : O) (err new_err : E)

@@ -1,5 +1,5 @@
 -- What a job answers and leaves whose journal is opened: from its statics, its journal, and what is after that.
-use Rattle.std.proofs.Common.{◌≡◌, ◌≢◌, ℕ, ◌+◌, ◌-◌, ◌^◌, ◌<◌, ◌≤◌, Bool, true, false, List, [], ◌∷◌, ◌++◌, length, take, Option, Some, None, IfSome}
+use Rattle.std.proofs.Common.{◌≡◌, ◌≢◌, ℕ, ◌-◌, ◌^◌, ◌<◌, ◌≤◌, Bool, true, false, List, [], ◌∷◌, ◌++◌, length, take, Option, Some, None, IfSome}
 use Rattle.std.proofs.Common.{refl, sym, ap, ◌∙◌, subst, arith, inl, inr}
 use Rattle.std.specs.Prelude.{unwrap_or, Result, Ok, Err, if◌then◌else◌}
 use Rattle.sz_types.specs.Tables.{Declaration}
@@ -159,20 +159,7 @@ module _ {F : Type 0} (the_files : files.Ghosts F) (s : RunSettings) (program : 
       (λ most size rest read memory. ap (λ (o : Answer). o.opens) (ap (outcome_after_statics (unless_journal name Empty size) rest) h.1))
       (λ e. cc)
   no_job failure.NoMemory h = no_memory_before
-  no_job failure.Usage h = absurd h
-  no_job (failure.Refused r) h = absurd h
-  no_job (failure.Lost n) h = absurd h
-  no_job (failure.Damaged b) h = absurd h
-  no_job (failure.Limit b) h = absurd h
-  no_job (failure.BadTables n) h = absurd h
-  no_job (failure.OtherTables n) h = absurd h
-  no_job (failure.TablesLimit n) h = absurd h
-  no_job (failure.BadProtoFile n) h = absurd h
-  no_job failure.OtherJob h = absurd h
-  no_job (failure.JournalDamaged n) h = absurd h
-  no_job failure.DiskFailed h = absurd h
-  no_job failure.ReadFailed h = absurd h
-  no_job failure.WriteFailed h = absurd h
+  no_job _ h = absurd h
 
   -- the journal isn't opened
   pub no_journal : (slots : List Slot) → statics program s.budget ≡ Done slots → (e : OpenError)

@@ -1,5 +1,5 @@
 -- What calls of a job leave of its journal.
-use Rattle.std.proofs.Common.{◌≡◌, ◌≢◌, ◌⊎◌, ℕ, suc, ◌+◌, ◌<◌, ◌≤◌, ◌^◌, Bool, true, false, true≢false, List, [], ◌∷◌, ◌++◌, Option, Some, IfSome}
+use Rattle.std.proofs.Common.{◌≡◌, ◌≢◌, ◌⊎◌, ℕ, ◌<◌, ◌≤◌, ◌^◌, Bool, true, false, true≢false, List, [], ◌∷◌, ◌++◌, Option, Some, IfSome}
 use Rattle.std.proofs.Common.{refl, sym, ◌∙◌, subst, inl, inr, append-nil}
 use Rattle.std.specs.Prelude.{Ok}
 use Rattle.sz_types.specs.Tables.{Declaration}
@@ -16,7 +16,7 @@ use Rattle.sz_journal.specs.declared.job.JobBytes.{JobBytes}
 use Rattle.sz_journal.specs.declared.progress.Progress.{Progress}
 use Rattle.sz_journal.specs.declared.round.RoundEntry.{RoundEntry}
 use Rattle.sz_journal.specs.Rounds.{progress_of, last_progress}
-use Rattle.sz_journal.specs.Journals.{Spells, Stands, Empty, Spelled}
+use Rattle.sz_journal.specs.Journals.{Spells, Empty, Spelled}
 use Rattle.sz_journal.specs.Laws.{IsOneStanding}
 use Rattle.sz_journal.specs.declared.journal.Journal.{Journal}
 use Rattle.sz_journal.specs.Journal.{rounds_of, KeepsRounds}
@@ -363,18 +363,4 @@ module _ {K : Type 0} (the_disk : disks.Ghosts K) where
 -- a failure has a status of its own
 pub not_done : (f : Failure) → status_of f ≢ status.Done
 not_done failure.Usage = λ e. cc
-not_done (failure.Refused r) = λ e. cc
-not_done (failure.Faulted n f) = λ e. cc
-not_done (failure.Lost n) = λ e. cc
-not_done (failure.Damaged b) = λ e. cc
-not_done (failure.Limit b) = λ e. cc
-not_done (failure.BadTables n) = λ e. cc
-not_done (failure.OtherTables n) = λ e. cc
-not_done (failure.TablesLimit n) = λ e. cc
-not_done (failure.BadProtoFile n) = λ e. cc
-not_done failure.OtherJob = λ e. cc
-not_done (failure.JournalDamaged n) = λ e. cc
-not_done failure.DiskFailed = λ e. cc
-not_done failure.ReadFailed = λ e. cc
-not_done failure.WriteFailed = λ e. cc
-not_done failure.NoMemory = λ e. cc
+not_done _ = λ e. cc

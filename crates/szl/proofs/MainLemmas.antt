@@ -9,8 +9,7 @@ use Rattle.sz_io.specs.declared.sink.Sink as sink
 use Rattle.szl.specs.declared.status.Status.{Status}
 use Rattle.szl.specs.declared.status.Status.TheVariants as status
 use Rattle.szl.specs.declared.failure.Failure.{Failure}
-use Rattle.szl.specs.declared.failure.Failure.TheVariants.{Usage, Refused, Faulted, Lost, Damaged, Limit, BadTables, OtherTables, TablesLimit, BadProtoFile}
-use Rattle.szl.specs.declared.failure.Failure.TheVariants.{OtherJob, JournalDamaged, DiskFailed, ReadFailed, WriteFailed, NoMemory}
+use Rattle.szl.specs.declared.failure.Failure.TheVariants.{DiskFailed, ReadFailed, WriteFailed, NoMemory}
 use Rattle.szl.specs.Failing.{status_of, line_of_failure}
 use Rattle.szl.specs.Opening.{Decides, Answers, status_of_answer}
 use Rattle.szl.specs.Answers.{Answer, Says, success}
@@ -45,22 +44,11 @@ fits_done answer output old new is h =
 -- a failure before anything was printed
 fits_error : (answer : Answer) (f : Failure) (rose : Type 0) (old new : Option (List ℕ)) → Decides (Err f) answer rose
     → Appends old new [] → Fits answer (status_of f) old new
-fits_error answer Usage rose old new decides h = record { status_is = sym (ap (λ (a : Answer). a.status) decides); output = h }
-fits_error answer (Refused r) rose old new decides h = record { status_is = sym (ap (λ (a : Answer). a.status) decides); output = h }
-fits_error answer (Faulted n fault) rose old new decides h = record { status_is = sym (ap (λ (a : Answer). a.status) decides); output = h }
-fits_error answer (Lost n) rose old new decides h = record { status_is = sym (ap (λ (a : Answer). a.status) decides); output = h }
-fits_error answer (Damaged byte) rose old new decides h = record { status_is = sym (ap (λ (a : Answer). a.status) decides); output = h }
-fits_error answer (Limit byte) rose old new decides h = record { status_is = sym (ap (λ (a : Answer). a.status) decides); output = h }
-fits_error answer (BadTables n) rose old new decides h = record { status_is = sym (ap (λ (a : Answer). a.status) decides); output = h }
-fits_error answer (OtherTables n) rose old new decides h = record { status_is = sym (ap (λ (a : Answer). a.status) decides); output = h }
-fits_error answer (TablesLimit n) rose old new decides h = record { status_is = sym (ap (λ (a : Answer). a.status) decides); output = h }
-fits_error answer OtherJob rose old new decides h = record { status_is = sym (ap (λ (a : Answer). a.status) decides); output = h }
-fits_error answer (JournalDamaged n) rose old new decides h = record { status_is = sym (ap (λ (a : Answer). a.status) decides); output = h }
 fits_error answer DiskFailed rose old new decides h = absurd decides
-fits_error answer (BadProtoFile n) rose old new decides h = record { status_is = sym (ap (λ (a : Answer). a.status) decides); output = h }
 fits_error answer ReadFailed rose old new decides h = record { status_is = decides.1; output = h }
 fits_error answer WriteFailed rose old new decides h = absurd decides
 fits_error answer NoMemory rose old new decides h = record { status_is = tt; output = prefix_none old answer.output new h }
+fits_error answer _ rose old new decides h = record { status_is = sym (ap (λ (a : Answer). a.status) decides); output = h }
 
 -- why printing ended in a failure: there was one before, and nothing was printed; or writing failed, or memory ran out
 pub data Ended (old new : Option (List ℕ)) : Result (List ℕ) Failure → Failure → Type 0 where
@@ -72,20 +60,7 @@ pub ended : (f : Failure) (made : Result (List ℕ) Failure) (old new : Option (
 ended f (Err g) old new printed = subst (Ended old new (Err g)) (sym printed.0) (before g printed.1)
 ended WriteFailed (Ok output) old new printed = unwritten output printed.0 printed.1
 ended NoMemory (Ok output) old new printed = no_room output printed
-ended Usage (Ok output) old new printed = absurd printed
-ended (Refused r) (Ok output) old new printed = absurd printed
-ended (Faulted n fault) (Ok output) old new printed = absurd printed
-ended (Lost n) (Ok output) old new printed = absurd printed
-ended (Damaged byte) (Ok output) old new printed = absurd printed
-ended (Limit byte) (Ok output) old new printed = absurd printed
-ended (BadTables n) (Ok output) old new printed = absurd printed
-ended (OtherTables n) (Ok output) old new printed = absurd printed
-ended (TablesLimit n) (Ok output) old new printed = absurd printed
-ended OtherJob (Ok output) old new printed = absurd printed
-ended (JournalDamaged n) (Ok output) old new printed = absurd printed
-ended DiskFailed (Ok output) old new printed = absurd printed
-ended (BadProtoFile n) (Ok output) old new printed = absurd printed
-ended ReadFailed (Ok output) old new printed = absurd printed
+ended _ (Ok output) old new printed = absurd printed
 
 -- a failure, before or while something was printed
 pub fits_failure : (answer : Answer) (f : Failure) (made : Result (List ℕ) Failure) (rose : Type 0) (old new : Option (List ℕ))
@@ -97,22 +72,11 @@ fits_failure answer _ _ rose old new decides (no_room output part) =
     subst (λ a. Fits a status.NoMemory old new) (sym decides) (record { status_is = tt; output = part })
 
 line_error : (answer : Answer) (f : Failure) (rose : Type 0) → Decides (Err f) answer rose → line_of_failure f ≡ line_of answer (status_of f)
-line_error answer Usage rose decides = sym (ap (λ (a : Answer). a.line) decides)
-line_error answer (Refused r) rose decides = sym (ap (λ (a : Answer). a.line) decides)
-line_error answer (Faulted n fault) rose decides = sym (ap (λ (a : Answer). a.line) decides)
-line_error answer (Lost n) rose decides = sym (ap (λ (a : Answer). a.line) decides)
-line_error answer (Damaged byte) rose decides = sym (ap (λ (a : Answer). a.line) decides)
-line_error answer (Limit byte) rose decides = sym (ap (λ (a : Answer). a.line) decides)
-line_error answer (BadTables n) rose decides = sym (ap (λ (a : Answer). a.line) decides)
-line_error answer (OtherTables n) rose decides = sym (ap (λ (a : Answer). a.line) decides)
-line_error answer (TablesLimit n) rose decides = sym (ap (λ (a : Answer). a.line) decides)
-line_error answer OtherJob rose decides = sym (ap (λ (a : Answer). a.line) decides)
-line_error answer (JournalDamaged n) rose decides = sym (ap (λ (a : Answer). a.line) decides)
 line_error answer DiskFailed rose decides = absurd decides
-line_error answer (BadProtoFile n) rose decides = sym (ap (λ (a : Answer). a.line) decides)
 line_error answer ReadFailed rose decides = refl
 line_error answer WriteFailed rose decides = refl
 line_error answer NoMemory rose decides = refl
+line_error answer _ rose decides = sym (ap (λ (a : Answer). a.line) decides)
 
 -- the line of a failure is that of its status
 pub line_is : (answer : Answer) (f : Failure) (made : Result (List ℕ) Failure) (rose : Type 0) (old new : Option (List ℕ))
@@ -133,22 +97,9 @@ fits_no_memory answer _ _ rose old new decides (no_room output part) =
 -- a sink that is as it was is left alone at every status
 alone_always : {O : Type 0} (s : Status) (output : List ℕ) (old new : O) → new ≡ old → IsLeftAlone s output old new
 alone_always status.Done output old new same = λ none. same
-alone_always status.Usage output old new same = same
-alone_always status.Program output old new same = same
-alone_always status.RecordFault output old new same = same
-alone_always status.Damaged output old new same = same
-alone_always status.ReadFailed output old new same = same
 alone_always status.WriteFailed output old new same = λ none. same
-alone_always status.ShardLost output old new same = same
 alone_always status.NoMemory output old new same = λ none. same
-alone_always status.Limit output old new same = same
-alone_always status.BadTables output old new same = same
-alone_always status.OtherTables output old new same = same
-alone_always status.TablesLimit output old new same = same
-alone_always status.OtherJob output old new same = same
-alone_always status.JournalDamaged output old new same = same
-alone_always status.DiskFailed output old new same = same
-alone_always status.BadProtoFile output old new same = same
+alone_always _ output old new same = same
 
 -- the output is what was to be printed, so where it has no byte no call was made
 pub alone_printed : {O : Type 0} (answer : Answer) (output : List ℕ) (old new : O) → Says answer (success output) → (output ≡ [] → new ≡ old)

@@ -80,21 +80,8 @@ types_refused bytes f few is = short (bad_file f) few is
 pub tells_still : (bytes : List ℕ) (rose : Type 0) (answer : Result (List TypeShape) Failure) → TellsTypes bytes ⊥ answer → TellsTypes bytes rose answer
 tells_still bytes rose (Ok types) h = h
 tells_still bytes rose (Err (failure.BadProtoFile f)) h = h
-tells_still bytes rose (Err failure.ReadFailed) h = absurd h
 tells_still bytes rose (Err failure.NoMemory) h = h
-tells_still bytes rose (Err failure.Usage) h = absurd h
-tells_still bytes rose (Err (failure.Refused r)) h = absurd h
-tells_still bytes rose (Err (failure.Faulted n f)) h = absurd h
-tells_still bytes rose (Err (failure.Lost n)) h = absurd h
-tells_still bytes rose (Err (failure.Damaged b)) h = absurd h
-tells_still bytes rose (Err (failure.Limit b)) h = absurd h
-tells_still bytes rose (Err (failure.BadTables n)) h = absurd h
-tells_still bytes rose (Err (failure.OtherTables n)) h = absurd h
-tells_still bytes rose (Err (failure.TablesLimit n)) h = absurd h
-tells_still bytes rose (Err failure.OtherJob) h = absurd h
-tells_still bytes rose (Err (failure.JournalDamaged n)) h = absurd h
-tells_still bytes rose (Err failure.DiskFailed) h = absurd h
-tells_still bytes rose (Err failure.WriteFailed) h = absurd h
+tells_still bytes rose (Err _) h = absurd h
 
 -- the file couldn't be read, or is too long
 pub unread_tells : (told : Option (List ℕ)) (rose : Type 0) (f : Failure) (r : ReadsText told most_file_bytes past_file rose (Err f))
@@ -108,19 +95,7 @@ unread_tells told rose (failure.BadProtoFile f) r = too_long f r.tells.0
         same g is = cc
 unread_tells told rose failure.ReadFailed r = r.tells
 unread_tells told rose failure.NoMemory r = tt
-unread_tells told rose failure.Usage r = let e = r.tells.0 in absurd (cc)
-unread_tells told rose (failure.Refused x) r = let e = r.tells.0 in absurd (cc)
-unread_tells told rose (failure.Faulted n f) r = let e = r.tells.0 in absurd (cc)
-unread_tells told rose (failure.Lost n) r = let e = r.tells.0 in absurd (cc)
-unread_tells told rose (failure.Damaged b) r = let e = r.tells.0 in absurd (cc)
-unread_tells told rose (failure.Limit b) r = let e = r.tells.0 in absurd (cc)
-unread_tells told rose (failure.BadTables n) r = let e = r.tells.0 in absurd (cc)
-unread_tells told rose (failure.OtherTables n) r = let e = r.tells.0 in absurd (cc)
-unread_tells told rose (failure.TablesLimit n) r = let e = r.tells.0 in absurd (cc)
-unread_tells told rose failure.OtherJob r = let e = r.tells.0 in absurd (cc)
-unread_tells told rose (failure.JournalDamaged n) r = let e = r.tells.0 in absurd (cc)
-unread_tells told rose failure.DiskFailed r = let e = r.tells.0 in absurd (cc)
-unread_tells told rose failure.WriteFailed r = let e = r.tells.0 in absurd (cc)
+unread_tells told rose _ r = let e = r.tells.0 in absurd (cc)
 
 -- a file that was read holds these bytes, where they are told
 pub bytes_held : (told : Option (List ℕ)) (limit : ℕ) (past : Failure) (rose : Type 0) (bytes : List ℕ) → ReadsText told limit past rose (Ok bytes)
@@ -144,21 +119,7 @@ module _ {F : Type 0} (the_files : files.Ghosts F) (name : List ℕ) (old new : 
       gains : (f : Failure) → NamesGain (ran_out {A = List ℕ} (Err f)) (the_files.names old) (the_files.names new) name
           → NamesGain (ran_out {A = List TypeShape} (Err f)) (the_files.names old) (the_files.names new) name
       gains failure.NoMemory h = h
-      gains failure.ReadFailed h = h
-      gains (failure.BadProtoFile f) h = h
-      gains failure.Usage h = h
-      gains (failure.Refused r) h = h
-      gains (failure.Faulted n f) h = h
-      gains (failure.Lost n) h = h
-      gains (failure.Damaged b) h = h
-      gains (failure.Limit b) h = h
-      gains (failure.BadTables n) h = h
-      gains (failure.OtherTables n) h = h
-      gains (failure.TablesLimit n) h = h
-      gains failure.OtherJob h = h
-      gains (failure.JournalDamaged n) h = h
-      gains failure.DiskFailed h = h
-      gains failure.WriteFailed h = h
+      gains _ h = h
 
   -- it was read, and this is said of its types
   pub file_told : (bytes : List ℕ) (answer : Result (List TypeShape) Failure) (rose : Type 0)
@@ -175,19 +136,4 @@ module _ {F : Type 0} (the_files : files.Ghosts F) (name : List ℕ) (old new : 
     where
       gains : (a : Result (List TypeShape) Failure) → NamesGain (ran_out a) (the_files.names old) (the_files.names new) name
       gains (Err failure.NoMemory) = inr gained
-      gains (Ok types) = gained
-      gains (Err failure.ReadFailed) = gained
-      gains (Err (failure.BadProtoFile f)) = gained
-      gains (Err failure.Usage) = gained
-      gains (Err (failure.Refused r)) = gained
-      gains (Err (failure.Faulted n f)) = gained
-      gains (Err (failure.Lost n)) = gained
-      gains (Err (failure.Damaged b)) = gained
-      gains (Err (failure.Limit b)) = gained
-      gains (Err (failure.BadTables n)) = gained
-      gains (Err (failure.OtherTables n)) = gained
-      gains (Err (failure.TablesLimit n)) = gained
-      gains (Err failure.OtherJob) = gained
-      gains (Err (failure.JournalDamaged n)) = gained
-      gains (Err failure.DiskFailed) = gained
-      gains (Err failure.WriteFailed) = gained
+      gains _ = gained

@@ -213,20 +213,7 @@ module _ {F : Type 0} (the_files : files.Ghosts F) (s : RunSettings) (types : Li
   pub text_unread : (f : Failure) → IsFailureOf text f → OfText old (Err f)
   text_unread (failure.Refused r) h = refused_so r (refused r) h (λ IsSo. tt) (λ by rest. refl)
   text_unread failure.NoMemory h = let r = every_text_is_read text in no_memory_for r.reading r.read
-  text_unread failure.Usage h = absurd h
-  text_unread (failure.Faulted n f) h = absurd h
-  text_unread (failure.Lost n) h = absurd h
-  text_unread (failure.Damaged b) h = absurd h
-  text_unread (failure.Limit b) h = absurd h
-  text_unread (failure.BadTables n) h = absurd h
-  text_unread (failure.OtherTables n) h = absurd h
-  text_unread (failure.TablesLimit n) h = absurd h
-  text_unread (failure.BadProtoFile n) h = absurd h
-  text_unread failure.OtherJob h = absurd h
-  text_unread (failure.JournalDamaged n) h = absurd h
-  text_unread failure.DiskFailed h = absurd h
-  text_unread failure.ReadFailed h = absurd h
-  text_unread failure.WriteFailed h = absurd h
+  text_unread _ h = absurd h
 
   module _ (ss : Stms) (short : IsShort text) (has : HasStatements text ss) where
     pub program_refused : (f : Failure) → IsFailureOn (savable types true s.ignore_undefs ss) f → OfText old (Err f)
@@ -234,20 +221,7 @@ module _ {F : Type 0} (the_files : files.Ghosts F) (s : RunSettings) (types : Li
         refused_so r (spells ss) (short, has) (λ IsSo program slots is begun. let no = sym h ∙ is in absurd (cc))
         (λ by rest. ap (outcome_after_checked s.budget by rest) h)
     program_refused failure.NoMemory h = no_memory_for (spells ss) (short, has)
-    program_refused failure.Usage h = absurd h
-    program_refused (failure.Faulted n f) h = absurd h
-    program_refused (failure.Lost n) h = absurd h
-    program_refused (failure.Damaged b) h = absurd h
-    program_refused (failure.Limit b) h = absurd h
-    program_refused (failure.BadTables n) h = absurd h
-    program_refused (failure.OtherTables n) h = absurd h
-    program_refused (failure.TablesLimit n) h = absurd h
-    program_refused (failure.BadProtoFile n) h = absurd h
-    program_refused failure.OtherJob h = absurd h
-    program_refused (failure.JournalDamaged n) h = absurd h
-    program_refused failure.DiskFailed h = absurd h
-    program_refused failure.ReadFailed h = absurd h
-    program_refused failure.WriteFailed h = absurd h
+    program_refused _ h = absurd h
 
     -- the program is answered
     pub program_resumed : (new : F) (program : Marked) (answer : Result (List ℕ) Failure) → savable types true s.ignore_undefs ss ≡ Ok program
@@ -399,19 +373,7 @@ module _ {F : Type 0} (the_files : files.Ghosts F) (s : RunSettings) (types : Li
       let r = every_text_is_read reads.text in
       unread failure.NoMemory reads.text r.reading new r.read reads.holds (λ X known memory. absurd (memory refl))
       (λ outcome a. (tt, opened_or_none the_files old new s.program (s.input ∷ []) outcome.opens a.opens gains))
-  file_unread failure.Usage new reads gains one = let e = reads.tells.0 in absurd (cc)
-  file_unread (failure.Faulted k f) new reads gains one = let e = reads.tells.0 in absurd (cc)
-  file_unread (failure.Lost n) new reads gains one = let e = reads.tells.0 in absurd (cc)
-  file_unread (failure.Damaged b) new reads gains one = let e = reads.tells.0 in absurd (cc)
-  file_unread (failure.Limit b) new reads gains one = let e = reads.tells.0 in absurd (cc)
-  file_unread (failure.BadTables n) new reads gains one = let e = reads.tells.0 in absurd (cc)
-  file_unread (failure.OtherTables n) new reads gains one = let e = reads.tells.0 in absurd (cc)
-  file_unread (failure.TablesLimit n) new reads gains one = let e = reads.tells.0 in absurd (cc)
-  file_unread (failure.BadProtoFile n) new reads gains one = let e = reads.tells.0 in absurd (cc)
-  file_unread failure.OtherJob new reads gains one = let e = reads.tells.0 in absurd (cc)
-  file_unread (failure.JournalDamaged n) new reads gains one = let e = reads.tells.0 in absurd (cc)
-  file_unread failure.DiskFailed new reads gains one = let e = reads.tells.0 in absurd (cc)
-  file_unread failure.WriteFailed new reads gains one = let e = reads.tells.0 in absurd (cc)
+  file_unread _ new reads gains one = let e = reads.tells.0 in absurd (cc)
 
   -- its text is answered
   pub text_resumed : (mid new : F) (bytes : List ℕ) (answer : Result (List ℕ) Failure) (rose : Type 0)
@@ -516,19 +478,7 @@ module _ {F K : Type 0} (the_files : files.Ghosts F) (the_disk : disks.Ghosts K)
         let g = every_file_is_read r.bytes in
         untyped failure.NoMemory r.bytes g.file g.read r.holds (λ IsSo reading known memory. absurd (memory refl)) (λ go a. tt)
         (λ go a. opened_or_none the_files old new file_name (s.program ∷ s.input ∷ []) _ a.opens r.gained)
-    types_unread failure.Usage r = absurd r.tells
-    types_unread (failure.Refused x) r = absurd r.tells
-    types_unread (failure.Faulted k f) r = absurd r.tells
-    types_unread (failure.Lost k) r = absurd r.tells
-    types_unread (failure.Damaged b) r = absurd r.tells
-    types_unread (failure.Limit b) r = absurd r.tells
-    types_unread (failure.BadTables k) r = absurd r.tells
-    types_unread (failure.OtherTables k) r = absurd r.tells
-    types_unread (failure.TablesLimit k) r = absurd r.tells
-    types_unread failure.OtherJob r = absurd r.tells
-    types_unread (failure.JournalDamaged k) r = absurd r.tells
-    types_unread failure.DiskFailed r = absurd r.tells
-    types_unread failure.WriteFailed r = absurd r.tells
+    types_unread _ r = absurd r.tells
 
   pub types_fail : (f : Failure) (new : F) → GivesTypes the_files s.proto old new (Err f) → OfJob new (Err f)
   types_fail f new gives = by s.proto refl gives

@@ -1,5 +1,5 @@
 -- The promise of the top call for a job that is resumed, from the answer, what was printed of it, and the line.
-use Rattle.std.proofs.Common.{◌≡◌, ◌≢◌, ◌⊎◌, inl, inr, ℕ, List, [], ◌∷◌, ◌++◌, Option, Some, None, refl, sym, ap, ◌∙◌, subst, arith}
+use Rattle.std.proofs.Common.{◌≡◌, ◌≢◌, ◌⊎◌, inl, inr, Bool, true, false, ℕ, List, [], ◌∷◌, ◌++◌, Option, Some, None, refl, sym, ap, ◌∙◌, subst, arith}
 use Rattle.std.specs.Prelude.{Result, Ok, Err, option_to_list}
 use Rattle.std.proofs.KnownBytes.{Appends-nil}
 use Rattle.sz_io.specs.Rose.{Rose}
@@ -8,7 +8,7 @@ use Rattle.sz_io.specs.declared.sink.Sink as sink
 use Rattle.sz_disk.specs.declared.disk.Disk as disks
 use Rattle.sz_words.specs.declared.settings.RunSettings.{RunSettings}
 use Rattle.sz_words.specs.declared.settings.Settings.{Settings}
-use Rattle.sz_words.specs.declared.settings.Settings.TheVariants.{Run, Check, Selftest, Merge, Resume}
+use Rattle.sz_words.specs.declared.settings.Settings.TheVariants.{Resume}
 use Rattle.szl.specs.declared.status.Status.{Status}
 use Rattle.szl.specs.declared.status.Status.TheVariants as status
 use Rattle.szl.specs.declared.failure.Failure.{Failure}
@@ -25,8 +25,8 @@ use Rattle.szl.proofs.AfterLemmas.{words_fail}
 use Rattle.szl.proofs.ResumeLemmas.{nothing_answered}
 use Rattle.szl.specs.Promise.{IsStatusOf, GainsOutput, IsLeftAlone, OpensFiles, line_of}
 use Rattle.sz_io.specs.Calls.{GainsLine}
-use Rattle.szl.specs.ResumePromise.{ByCommand, IfKnown, IsJobOutcome, IsStatusOnDisk, MeansJob, CompletesJob, KeepsJob, KeepsJournal, IfRun}
-use Rattle.szl.specs.ResumePromise.{free_status, line_on_disk, names_on_disk}
+use Rattle.szl.specs.ResumePromise.{IfJob, IfKnown, IsJobOutcome, IsStatusOnDisk, MeansJob, CompletesJob, KeepsJob, KeepsJournal, IfRun}
+use Rattle.szl.specs.ResumePromise.{free_status, job_asked, line_on_disk, names_on_disk}
 use Rattle.szl.specs.JournalRuns.{as_memory, AnswersJob}
 use Rattle.szl.specs.Judgement.{Reading, refused, spells}
 use Rattle.szl.specs.Resuming.{kept_job, source_of}
@@ -97,58 +97,16 @@ module _ {F K : Type 0} (the_files : files.Ghosts F) (the_disk : disks.Ghosts K)
 
     -- the status of a failure that isn't the disk's is that of an answer without a disk
     same_answers : (outcome : Answer) (f : Failure) → f ≢ failure.DiskFailed → IsStatusOf outcome (status_of f) → IsStatusOnDisk outcome (status_of f)
-    same_answers outcome failure.Usage other is = is
-    same_answers outcome (failure.Refused r) other is = is
-    same_answers outcome (failure.Faulted n x) other is = is
-    same_answers outcome (failure.Lost n) other is = is
-    same_answers outcome (failure.Damaged b) other is = is
-    same_answers outcome (failure.Limit b) other is = is
-    same_answers outcome (failure.BadTables n) other is = is
-    same_answers outcome (failure.OtherTables n) other is = is
-    same_answers outcome (failure.TablesLimit n) other is = is
-    same_answers outcome (failure.BadProtoFile x) other is = is
-    same_answers outcome failure.OtherJob other is = is
-    same_answers outcome (failure.JournalDamaged n) other is = is
     same_answers outcome failure.DiskFailed other is = tt
-    same_answers outcome failure.ReadFailed other is = is
-    same_answers outcome failure.WriteFailed other is = is
-    same_answers outcome failure.NoMemory other is = is
+    same_answers outcome _ other is = is
 
     same_line : (outcome : Answer) (f : Failure) → f ≢ failure.DiskFailed → line_of outcome (status_of f) ≡ line_on_disk outcome (status_of f)
-    same_line outcome failure.Usage other = refl
-    same_line outcome (failure.Refused r) other = refl
-    same_line outcome (failure.Faulted n x) other = refl
-    same_line outcome (failure.Lost n) other = refl
-    same_line outcome (failure.Damaged b) other = refl
-    same_line outcome (failure.Limit b) other = refl
-    same_line outcome (failure.BadTables n) other = refl
-    same_line outcome (failure.OtherTables n) other = refl
-    same_line outcome (failure.TablesLimit n) other = refl
-    same_line outcome (failure.BadProtoFile x) other = refl
-    same_line outcome failure.OtherJob other = refl
-    same_line outcome (failure.JournalDamaged n) other = refl
     same_line outcome failure.DiskFailed other = absurd (other refl)
-    same_line outcome failure.ReadFailed other = refl
-    same_line outcome failure.WriteFailed other = refl
-    same_line outcome failure.NoMemory other = refl
+    same_line outcome _ other = refl
 
     same_free : (f : Failure) → f ≢ failure.DiskFailed → status_of f ≡ free_status (status_of f)
-    same_free failure.Usage other = refl
-    same_free (failure.Refused r) other = refl
-    same_free (failure.Faulted n x) other = refl
-    same_free (failure.Lost n) other = refl
-    same_free (failure.Damaged b) other = refl
-    same_free (failure.Limit b) other = refl
-    same_free (failure.BadTables n) other = refl
-    same_free (failure.OtherTables n) other = refl
-    same_free (failure.TablesLimit n) other = refl
-    same_free (failure.BadProtoFile x) other = refl
-    same_free failure.OtherJob other = refl
-    same_free (failure.JournalDamaged n) other = refl
     same_free failure.DiskFailed other = absurd (other refl)
-    same_free failure.ReadFailed other = refl
-    same_free failure.WriteFailed other = refl
-    same_free failure.NoMemory other = refl
+    same_free _ other = refl
 
     -- what was made is a text or a failure that isn't the disk's; or the disk failed
     data Made : Result (List ℕ) Failure → Type 0 where
@@ -158,21 +116,7 @@ module _ {F K : Type 0} (the_files : files.Ghosts F) (the_disk : disks.Ghosts K)
     made_so : (made : Result (List ℕ) Failure) → Made made
     made_so (Ok output) = other_made (Ok output) refl (λ e. cc)
     made_so (Err failure.DiskFailed) = disk_failed
-    made_so (Err failure.Usage) = other_made (Err failure.Usage) refl (λ e. cc)
-    made_so (Err (failure.Refused r)) = other_made (Err (failure.Refused r)) refl (λ e. cc)
-    made_so (Err (failure.Faulted n x)) = other_made (Err (failure.Faulted n x)) refl (λ e. cc)
-    made_so (Err (failure.Lost n)) = other_made (Err (failure.Lost n)) refl (λ e. cc)
-    made_so (Err (failure.Damaged b)) = other_made (Err (failure.Damaged b)) refl (λ e. cc)
-    made_so (Err (failure.Limit b)) = other_made (Err (failure.Limit b)) refl (λ e. cc)
-    made_so (Err (failure.BadTables n)) = other_made (Err (failure.BadTables n)) refl (λ e. cc)
-    made_so (Err (failure.OtherTables n)) = other_made (Err (failure.OtherTables n)) refl (λ e. cc)
-    made_so (Err (failure.TablesLimit n)) = other_made (Err (failure.TablesLimit n)) refl (λ e. cc)
-    made_so (Err (failure.BadProtoFile x)) = other_made (Err (failure.BadProtoFile x)) refl (λ e. cc)
-    made_so (Err failure.OtherJob) = other_made (Err failure.OtherJob) refl (λ e. cc)
-    made_so (Err (failure.JournalDamaged n)) = other_made (Err (failure.JournalDamaged n)) refl (λ e. cc)
-    made_so (Err failure.ReadFailed) = other_made (Err failure.ReadFailed) refl (λ e. cc)
-    made_so (Err failure.WriteFailed) = other_made (Err failure.WriteFailed) refl (λ e. cc)
-    made_so (Err failure.NoMemory) = other_made (Err failure.NoMemory) refl (λ e. cc)
+    made_so (Err cause) = other_made (Err cause) refl (λ e. cc)
 
     -- what printing ended in isn't the disk's failure, where what was made isn't
     not_disk : (made : Result (List ℕ) Failure) (f : Failure) → (made ≡ Err failure.DiskFailed → ⊥)
@@ -284,79 +228,66 @@ keeps_under the_files the_disk s first later old disk new done k = record {
         let kept = h program slots is begun before found in
         record { added = kept.added; small = kept.small; stopped = kept.stopped; ended = λ e. kept.ended (done e) }
 
--- ---- by command
+-- ---- where a job is resumed, and where none is
 
--- something is so by command, where it is of other commands
-pub of_others : (asked : Option Settings) (IsSo : RunSettings → Type 0) (other : Type 0) → ((s : RunSettings) → asked ≡ Some (Resume s) → ⊥) → other
-    → ByCommand asked IsSo other
-of_others None IsSo other not o = o
-of_others (Some (Run s)) IsSo other not o = o
-of_others (Some (Check program proto)) IsSo other not o = o
-of_others (Some (Selftest seed records workers)) IsSo other not o = o
-of_others (Some (Merge names save)) IsSo other not o = o
-of_others (Some (Resume s)) IsSo other not o = absurd (not s refl)
+-- one follows from another in both cases
+pub each_job : (job : Option RunSettings) (IsSo IsToo : RunSettings → Type 0) (other too : Type 0) → ((s : RunSettings) → IsSo s → IsToo s)
+    → (other → too) → IfJob job IsSo other → IfJob job IsToo too
+each_job (Some s) IsSo IsToo other too f h o = f s o
+each_job None IsSo IsToo other too f h o = h o
 
--- one follows from another by command
-pub each_command : (asked : Option Settings) (IsSo IsToo : RunSettings → Type 0) (other too : Type 0) → ((s : RunSettings) → IsSo s → IsToo s)
-    → (other → too) → ByCommand asked IsSo other → ByCommand asked IsToo too
-each_command None IsSo IsToo other too f h o = h o
-each_command (Some (Run s)) IsSo IsToo other too f h o = h o
-each_command (Some (Check program proto)) IsSo IsToo other too f h o = h o
-each_command (Some (Selftest seed records workers)) IsSo IsToo other too f h o = h o
-each_command (Some (Merge names save)) IsSo IsToo other too f h o = h o
-each_command (Some (Resume s)) IsSo IsToo other too f h o = f s o
-
--- what is so by every command is so
-pub by_any : (asked : Option Settings) (P : Type 0) → ByCommand asked (λ s. P) P → P
+-- what is so in both is so
+pub by_any : (job : Option RunSettings) (P : Type 0) → IfJob job (λ s. P) P → P
+by_any (Some s) P h = h
 by_any None P h = h
-by_any (Some (Run s)) P h = h
-by_any (Some (Check program proto)) P h = h
-by_any (Some (Selftest seed records workers)) P h = h
-by_any (Some (Merge names save)) P h = h
-by_any (Some (Resume s)) P h = h
+
+-- and what is so of each
+pub in_both : (job : Option RunSettings) (IsSo : RunSettings → Type 0) (other : Type 0) → ((s : RunSettings) → IsSo s) → other → IfJob job IsSo other
+in_both (Some s) IsSo other each o = each s
+in_both None IsSo other each o = o
+
+-- without a disk no job is resumed
+pub no_job : (asked : Option Settings) → job_asked false asked ≡ None
+no_job (Some (Resume s)) = refl
+no_job _ = refl
+
+pub without_disk : (asked : Option Settings) (IsSo : RunSettings → Type 0) (other : Type 0) → IfJob (job_asked false asked) IsSo other → other
+without_disk asked IsSo other h = subst (λ job. IfJob job IsSo other) (no_job asked) h
+
+-- with one, the job of the settings is
+pub job_is : (has_disk : Bool) (asked : Option Settings) (settings : Settings) (s : RunSettings) → has_disk ≡ true → asked ≡ Some settings
+    → settings ≡ Resume s → job_asked has_disk asked ≡ Some s
+job_is has_disk asked settings s there is resumes = ap (λ d. job_asked d asked) there ∙ ap (job_asked true) (is ∙ ap some resumes)
+  where
+    some : Settings → Option Settings
+    some settings = Some settings
 
 module _ {F K : Type 0} (the_files : files.Ghosts F) (the_disk : disks.Ghosts K) (old new : F) (disk : K) where
-  -- what is answered, by command
-  abbrev pub AnswersAsked : Option Settings → Result (List ℕ) Failure → Type 0
-  AnswersAsked asked made =
-      ByCommand asked (λ s. AnswersJob the_files (λ st outcome. IsJobOutcome the_files the_disk s st old disk outcome) (names_on_disk (Some (Resume s))) (λ n. n)
+  -- what is answered, of which this is the job that is resumed, if one is
+  abbrev pub AnswersAsked : Option RunSettings → Option Settings → Result (List ℕ) Failure → Type 0
+  AnswersAsked job asked made =
+      IfJob job (λ s. AnswersJob the_files (λ st outcome. IsJobOutcome the_files the_disk s st old disk outcome) (names_on_disk (Some (Resume s))) (λ n. n)
       old new made) (Answers the_files asked old new made)
 
   -- a read failed
-  pub read_rose : (asked : Option Settings) → AnswersAsked asked (Err failure.ReadFailed) → Rose (the_files.faults old) (the_files.faults new)
-  read_rose asked a = by_any asked _ (each_command asked _ _ _ _ (λ s a. a.decides.0) (λ a. a.decides.0) a)
+  pub read_rose : (job : Option RunSettings) (asked : Option Settings) → AnswersAsked job asked (Err failure.ReadFailed)
+      → Rose (the_files.faults old) (the_files.faults new)
+  read_rose job asked a = by_any job _ (each_job job _ _ _ _ (λ s a. a.decides.0) (λ a. a.decides.0) a)
 
   -- no answer is that writing failed, and none of another command that the disk did
-  pub not_written : (asked : Option Settings) → AnswersAsked asked (Err failure.WriteFailed) → ⊥
-  not_written asked a = by_any asked _ (each_command asked _ _ _ _ (λ s a. a.decides) (λ a. a.decides) a)
+  pub not_written : (job : Option RunSettings) (asked : Option Settings) → AnswersAsked job asked (Err failure.WriteFailed) → ⊥
+  not_written job asked a = by_any job _ (each_job job _ _ _ _ (λ s a. a.decides) (λ a. a.decides) a)
 
 -- words without settings
-pub by_words_fail : {F K : Type 0} (the_files : files.Ghosts F) (the_disk : disks.Ghosts K) (old : F) (disk : K) (words : List (List ℕ)) (e : WordsError)
-    → (e ≡ words_errors.Usage → settings_in words ≡ None)
-    → AnswersAsked the_files the_disk old old disk (settings_in words) (Err (failure_of_words e))
-by_words_fail the_files the_disk old disk words words_errors.Usage none =
-    of_others (settings_in words) _ _ (λ s is. let no = sym (none refl) ∙ is in absurd (cc)) (words_fail the_files old words words_errors.Usage none)
-by_words_fail the_files the_disk old disk words words_errors.NoMemory none =
-    by (settings_in words) (words_fail the_files old words words_errors.NoMemory none)
-  where
-    by : (asked : Option Settings) → Answers the_files asked old old (Err failure.NoMemory)
-        → AnswersAsked the_files the_disk old old disk asked (Err failure.NoMemory)
-    by None a = a
-    by (Some (Run s)) a = a
-    by (Some (Check program proto)) a = a
-    by (Some (Selftest seed records workers)) a = a
-    by (Some (Merge names save)) a = a
-    by (Some (Resume s)) a = nothing_answered the_files the_disk s old disk
-
--- and the disk was left alone
-pub by_nothing : {K : Type 0} (asked : Option Settings) (IsSo : RunSettings → Type 0) (disk : K) → ((s : RunSettings) → IsSo s)
-    → ByCommand asked IsSo (disk ≡ disk)
-by_nothing None IsSo disk each = refl
-by_nothing (Some (Run s)) IsSo disk each = refl
-by_nothing (Some (Check program proto)) IsSo disk each = refl
-by_nothing (Some (Selftest seed records workers)) IsSo disk each = refl
-by_nothing (Some (Merge names save)) IsSo disk each = refl
-by_nothing (Some (Resume s)) IsSo disk each = each s
+pub by_words_fail : {F K : Type 0} (the_files : files.Ghosts F) (the_disk : disks.Ghosts K) (old : F) (disk : K) (words : List (List ℕ))
+    (has_disk : Bool) (e : WordsError) → (e ≡ words_errors.Usage → settings_in words ≡ None)
+    → AnswersAsked the_files the_disk old old disk (job_asked has_disk (settings_in words)) (settings_in words) (Err (failure_of_words e))
+by_words_fail the_files the_disk old disk words has_disk words_errors.Usage none =
+    subst (λ job. AnswersAsked the_files the_disk old old disk job (settings_in words) (Err failure.Usage)) (sym (ap (job_asked has_disk) (none refl)))
+    (words_fail the_files old words words_errors.Usage none)
+by_words_fail the_files the_disk old disk words has_disk words_errors.NoMemory none =
+    in_both (job_asked has_disk (settings_in words)) _ _ (λ s. nothing_answered the_files the_disk s old disk)
+    (words_fail the_files old words words_errors.NoMemory none)
 
 -- ---- why a status is told
 
@@ -380,23 +311,11 @@ failed_before made f old new printed written room = by made f (ended f made old 
 
 completed : (answer : Answer) (st : Status) → IsStatusOnDisk answer st → st ≢ status.ReadFailed → st ≢ status.WriteFailed → st ≢ status.DiskFailed
     → (st ≡ status.NoMemory) ⊎ (st ≡ answer.status)
-completed answer status.Done is read written disk = inr is
-completed answer status.Usage is read written disk = inr is
-completed answer status.Program is read written disk = inr is
-completed answer status.RecordFault is read written disk = inr is
-completed answer status.Damaged is read written disk = inr is
 completed answer status.ReadFailed is read written disk = absurd (read refl)
 completed answer status.WriteFailed is read written disk = absurd (written refl)
-completed answer status.ShardLost is read written disk = inr is
 completed answer status.NoMemory is read written disk = inl refl
-completed answer status.Limit is read written disk = inr is
-completed answer status.BadTables is read written disk = inr is
-completed answer status.OtherTables is read written disk = inr is
-completed answer status.TablesLimit is read written disk = inr is
-completed answer status.BadProtoFile is read written disk = inr is
-completed answer status.OtherJob is read written disk = inr is
-completed answer status.JournalDamaged is read written disk = inr is
 completed answer status.DiskFailed is read written disk = absurd (disk refl)
+completed answer _ is read written disk = inr is
 
 pub completes_job : {F O E K : Type 0} (the_files : files.Ghosts F) (the_out : sink.Ghosts O) (the_err : sink.Ghosts E) (the_disk : disks.Ghosts K)
     (s : RunSettings) (st : Status) (files new_files : F) (out new_out : O) (err new_err : E) (disk : K)
@@ -408,57 +327,30 @@ completes_job the_files the_out the_err the_disk s st files new_files out new_ou
 -- which failure a status is told for
 of_read : (f : Failure) → status_of f ≡ status.ReadFailed → f ≡ failure.ReadFailed
 of_read failure.ReadFailed e = refl
-of_read failure.Usage e = absurd (cc)
-of_read (failure.Refused r) e = absurd (cc)
-of_read (failure.Faulted n x) e = absurd (cc)
-of_read (failure.Lost n) e = absurd (cc)
-of_read (failure.Damaged b) e = absurd (cc)
-of_read (failure.Limit b) e = absurd (cc)
-of_read (failure.BadTables n) e = absurd (cc)
-of_read (failure.OtherTables n) e = absurd (cc)
-of_read (failure.TablesLimit n) e = absurd (cc)
-of_read (failure.BadProtoFile x) e = absurd (cc)
-of_read failure.OtherJob e = absurd (cc)
-of_read (failure.JournalDamaged n) e = absurd (cc)
-of_read failure.DiskFailed e = absurd (cc)
-of_read failure.WriteFailed e = absurd (cc)
-of_read failure.NoMemory e = absurd (cc)
+of_read _ e = absurd (cc)
 
 of_write : (f : Failure) → status_of f ≡ status.WriteFailed → f ≡ failure.WriteFailed
 of_write failure.WriteFailed e = refl
-of_write failure.Usage e = absurd (cc)
-of_write (failure.Refused r) e = absurd (cc)
-of_write (failure.Faulted n x) e = absurd (cc)
-of_write (failure.Lost n) e = absurd (cc)
-of_write (failure.Damaged b) e = absurd (cc)
-of_write (failure.Limit b) e = absurd (cc)
-of_write (failure.BadTables n) e = absurd (cc)
-of_write (failure.OtherTables n) e = absurd (cc)
-of_write (failure.TablesLimit n) e = absurd (cc)
-of_write (failure.BadProtoFile x) e = absurd (cc)
-of_write failure.OtherJob e = absurd (cc)
-of_write (failure.JournalDamaged n) e = absurd (cc)
-of_write failure.DiskFailed e = absurd (cc)
-of_write failure.ReadFailed e = absurd (cc)
-of_write failure.NoMemory e = absurd (cc)
+of_write _ e = absurd (cc)
 
 told_failure : (f told wanted : Failure) → (told ≡ f) ⊎ (told ≡ failure.NoMemory) → told ≡ wanted → wanted ≢ failure.NoMemory → f ≡ wanted
 told_failure f told wanted (inl is) e other = sym is ∙ e
 told_failure f told wanted (inr is) e other = absurd (other (sym e ∙ is))
 
-module _ {F K : Type 0} (the_files : files.Ghosts F) (the_disk : disks.Ghosts K) (old new : F) (disk : K) (asked : Option Settings)
-    (made : Result (List ℕ) Failure) (answers : AnswersAsked the_files the_disk old new disk asked made) (f told : Failure)
+module _ {F K : Type 0} (the_files : files.Ghosts F) (the_disk : disks.Ghosts K) (old new : F) (disk : K)
+    (job : Option RunSettings) (asked : Option Settings) (made : Result (List ℕ) Failure)
+    (answers : AnswersAsked the_files the_disk old new disk job asked made) (f told : Failure)
     (told_is : (told ≡ f) ⊎ (told ≡ failure.NoMemory)) (out new_out : Option (List ℕ)) (printed : Prints {T = Unit {0}} out new_out made (Err f)) where
   pub read_told : status_of told ≡ status.ReadFailed → Rose (the_files.faults old) (the_files.faults new)
   read_told e =
       let is : f ≡ failure.ReadFailed = told_failure f told failure.ReadFailed told_is (of_read told e) (λ no. cc) in
       let there = failed_before made f out new_out printed (λ w. let no = sym is ∙ w in absurd (cc)) (λ n. let no = sym is ∙ n in absurd (cc)) in
-      read_rose the_files the_disk old new disk asked (subst (AnswersAsked the_files the_disk old new disk asked) (there ∙ ap Err is) answers)
+      read_rose the_files the_disk old new disk job asked (subst (AnswersAsked the_files the_disk old new disk job asked) (there ∙ ap Err is) answers)
 
   pub write_told : (rose : Type 0) → (f ≡ failure.WriteFailed → (made ≡ Err failure.WriteFailed) ⊎ rose) → status_of told ≡ status.WriteFailed → rose
   write_told rose failed e =
       by (failed (told_failure f told failure.WriteFailed told_is (of_write told e) (λ no. cc)))
     where
       by : (made ≡ Err failure.WriteFailed) ⊎ rose → rose
-      by (inl is) = absurd (not_written the_files the_disk old new disk asked (subst (AnswersAsked the_files the_disk old new disk asked) is answers))
+      by (inl is) = absurd (not_written the_files the_disk old new disk job asked (subst (AnswersAsked the_files the_disk old new disk job asked) is answers))
       by (inr is) = is

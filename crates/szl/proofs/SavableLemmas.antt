@@ -76,20 +76,7 @@ still_refused types save ignoring statements (failure.Refused r) h = by save
     by : (save : Bool) → savable types save ignoring statements ≡ Err r
     by true = ap (savable_so true statements) h
     by false = h
-still_refused types save ignoring statements failure.Usage h = absurd h
-still_refused types save ignoring statements (failure.Faulted n fault) h = absurd h
-still_refused types save ignoring statements (failure.Lost n) h = absurd h
-still_refused types save ignoring statements (failure.Damaged b) h = absurd h
-still_refused types save ignoring statements (failure.Limit b) h = absurd h
-still_refused types save ignoring statements (failure.BadTables n) h = absurd h
-still_refused types save ignoring statements (failure.OtherTables n) h = absurd h
-still_refused types save ignoring statements (failure.TablesLimit n) h = absurd h
-still_refused types save ignoring statements failure.OtherJob h = absurd h
-still_refused types save ignoring statements (failure.JournalDamaged n) h = absurd h
-still_refused types save ignoring statements failure.DiskFailed h = absurd h
-still_refused types save ignoring statements (failure.BadProtoFile f) h = absurd h
-still_refused types save ignoring statements failure.ReadFailed h = absurd h
-still_refused types save ignoring statements failure.WriteFailed h = absurd h
+still_refused types save ignoring statements _ h = absurd h
 
 module _ (types : List TypeShape) (ignoring : Bool) (statements : Stms) (core : Core)
     (is : runnable types ignoring statements ≡ Ok (marked core ignoring)) where

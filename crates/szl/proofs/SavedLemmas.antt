@@ -19,7 +19,7 @@ use Rattle.sz_stream.specs.declared.tables.InputTables.{InputTables}
 use Rattle.sz_stream.specs.Inputs.{RunsInput, RunsFile}
 use Rattle.sz_words.specs.declared.settings.RunSettings.{RunSettings}
 use Rattle.sz_words.specs.declared.settings.Settings.{Settings}
-use Rattle.sz_words.specs.declared.settings.Settings.TheVariants.{Run, Check, Selftest, Resume, Merge}
+use Rattle.sz_words.specs.declared.settings.Settings.TheVariants.{Run}
 use Rattle.sz_words.specs.Bounds.{HasBounds}
 use Rattle.sz_protofile.specs.Types.{TypeShape}
 use Rattle.sz_protofile_types.specs.Readings.{with_types}
@@ -174,10 +174,6 @@ pub printed_saves : {F A : Type 0} (the_files : files.Ghosts F) (taken taken_now
     → IfOk answer (λ bytes. IfSaving asked (λ s. HasSaved the_files s old bytes.items))
     → IfSaving asked (λ s. GainsSo taken taken_now (HasSaved the_files s old))
 printed_saves the_files taken taken_now old asked (Err f) done printed saves = absurd printed
-printed_saves the_files taken taken_now old None (Ok v) done printed saves = tt
 printed_saves the_files taken taken_now old (Some (Run s)) (Ok v) done printed saves =
     λ saving. record { bytes = v.items; gained = printed; so = saves saving }
-printed_saves the_files taken taken_now old (Some (Check program proto)) (Ok v) done printed saves = tt
-printed_saves the_files taken taken_now old (Some (Resume s)) (Ok v) done printed saves = tt
-printed_saves the_files taken taken_now old (Some (Selftest seed records workers)) (Ok v) done printed saves = tt
-printed_saves the_files taken taken_now old (Some (Merge names save)) (Ok v) done printed saves = tt
+printed_saves the_files taken taken_now old _ (Ok v) done printed saves = tt

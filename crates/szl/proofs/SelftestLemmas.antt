@@ -62,20 +62,7 @@ module _ (program : Marked) (s : RunSettings) (input : List ℕ) where
     decides = says (ap (outcome_of_statics program s c.cut) h.1 ∙ ap (λ k. outcome_faulted k (seen_fault f)) (sym h.0));
   }
   static_fails_over failure.NoMemory h = no_memory_over
-  static_fails_over failure.Usage h = absurd h
-  static_fails_over (failure.Refused r) h = absurd h
-  static_fails_over (failure.Lost n) h = absurd h
-  static_fails_over (failure.Damaged b) h = absurd h
-  static_fails_over (failure.Limit b) h = absurd h
-  static_fails_over (failure.BadTables n) h = absurd h
-  static_fails_over (failure.OtherTables n) h = absurd h
-  static_fails_over (failure.TablesLimit n) h = absurd h
-  static_fails_over failure.OtherJob h = absurd h
-  static_fails_over (failure.JournalDamaged n) h = absurd h
-  static_fails_over failure.DiskFailed h = absurd h
-  static_fails_over (failure.BadProtoFile n) h = absurd h
-  static_fails_over failure.ReadFailed h = absurd h
-  static_fails_over failure.WriteFailed h = absurd h
+  static_fails_over _ h = absurd h
 
   -- the program was run over the bytes
   pub tables_over : (slots : List Slot) → statics program s.budget ≡ Done slots → (job : Job) → IsJobOf program slots s job
@@ -104,20 +91,7 @@ module _ (s : RunSettings) (text input : List ℕ) where
     decides = says refl;
   }
   text_refused_over failure.NoMemory h = no_memory_text
-  text_refused_over failure.Usage h = absurd h
-  text_refused_over (failure.Faulted n f) h = absurd h
-  text_refused_over (failure.Lost n) h = absurd h
-  text_refused_over (failure.Damaged b) h = absurd h
-  text_refused_over (failure.Limit b) h = absurd h
-  text_refused_over (failure.BadTables n) h = absurd h
-  text_refused_over (failure.OtherTables n) h = absurd h
-  text_refused_over (failure.TablesLimit n) h = absurd h
-  text_refused_over failure.OtherJob h = absurd h
-  text_refused_over (failure.JournalDamaged n) h = absurd h
-  text_refused_over failure.DiskFailed h = absurd h
-  text_refused_over (failure.BadProtoFile n) h = absurd h
-  text_refused_over failure.ReadFailed h = absurd h
-  text_refused_over failure.WriteFailed h = absurd h
+  text_refused_over _ h = absurd h
 
   module _ (ss : Stms) (short : IsShort text) (has : HasStatements text ss) where
     -- its statements are refused
@@ -130,20 +104,7 @@ module _ (s : RunSettings) (text input : List ℕ) where
       decides = says (ap (outcome_of_checked_run s c.cut) h);
     }
     statements_refused_over failure.NoMemory h = no_memory_text
-    statements_refused_over failure.Usage h = absurd h
-    statements_refused_over (failure.Faulted n f) h = absurd h
-    statements_refused_over (failure.Lost n) h = absurd h
-    statements_refused_over (failure.Damaged b) h = absurd h
-    statements_refused_over (failure.Limit b) h = absurd h
-    statements_refused_over (failure.BadTables n) h = absurd h
-    statements_refused_over (failure.OtherTables n) h = absurd h
-    statements_refused_over (failure.TablesLimit n) h = absurd h
-    statements_refused_over failure.OtherJob h = absurd h
-    statements_refused_over (failure.JournalDamaged n) h = absurd h
-    statements_refused_over failure.DiskFailed h = absurd h
-    statements_refused_over (failure.BadProtoFile n) h = absurd h
-    statements_refused_over failure.ReadFailed h = absurd h
-    statements_refused_over failure.WriteFailed h = absurd h
+    statements_refused_over _ h = absurd h
 
     -- they are a program, which was run
     pub program_over : (p : Marked) → savable [] s.save s.ignore_undefs ss ≡ Ok p → (answer : Result (List ℕ) Failure) → AnswersOver p s input answer

@@ -110,21 +110,7 @@ pub decides_since : (answer : Result (List ℕ) Failure) (outcome : Answer) (lat
     → Decides answer outcome later → Decides answer outcome since
 decides_since (Ok output) outcome later since rose h = h
 decides_since (Err failure.ReadFailed) outcome later since rose h = (rose h.0, h.1)
-decides_since (Err failure.WriteFailed) outcome later since rose h = h
-decides_since (Err failure.NoMemory) outcome later since rose h = h
-decides_since (Err failure.Usage) outcome later since rose h = h
-decides_since (Err (failure.Refused r)) outcome later since rose h = h
-decides_since (Err (failure.Faulted n f)) outcome later since rose h = h
-decides_since (Err (failure.Lost n)) outcome later since rose h = h
-decides_since (Err (failure.Damaged b)) outcome later since rose h = h
-decides_since (Err (failure.Limit b)) outcome later since rose h = h
-decides_since (Err (failure.BadTables n)) outcome later since rose h = h
-decides_since (Err (failure.OtherTables n)) outcome later since rose h = h
-decides_since (Err (failure.TablesLimit n)) outcome later since rose h = h
-decides_since (Err failure.OtherJob) outcome later since rose h = h
-decides_since (Err (failure.JournalDamaged n)) outcome later since rose h = h
-decides_since (Err failure.DiskFailed) outcome later since rose h = h
-decides_since (Err (failure.BadProtoFile n)) outcome later since rose h = h
+decides_since (Err _) outcome later since rose h = h
 
 -- a fact under what may be told
 pub under : (P : Type 0) (h : Option (List ℕ)) → P → IfSome h (λ _. P)
@@ -251,19 +237,7 @@ module _ {F : Type 0} (the_files : files.Ghosts F) (types : List TypeShape) (s :
       let r = every_text_is_read reads.text in
       failed_on reads.text r.reading r.read reads.holds failure.NoMemory (λ cut. tt)
       (λ cut. gained_first the_files old new s name n _ (some_opened r.reading cut) gains)
-  text_fails failure.Usage reads gains one = let e = reads.tells.0 in absurd (cc)
-  text_fails (failure.Faulted k f) reads gains one = let e = reads.tells.0 in absurd (cc)
-  text_fails (failure.Lost n) reads gains one = let e = reads.tells.0 in absurd (cc)
-  text_fails (failure.Damaged b) reads gains one = let e = reads.tells.0 in absurd (cc)
-  text_fails (failure.Limit b) reads gains one = let e = reads.tells.0 in absurd (cc)
-  text_fails (failure.BadTables n) reads gains one = let e = reads.tells.0 in absurd (cc)
-  text_fails (failure.OtherTables n) reads gains one = let e = reads.tells.0 in absurd (cc)
-  text_fails (failure.TablesLimit n) reads gains one = let e = reads.tells.0 in absurd (cc)
-  text_fails failure.OtherJob reads gains one = let e = reads.tells.0 in absurd (cc)
-  text_fails (failure.JournalDamaged n) reads gains one = let e = reads.tells.0 in absurd (cc)
-  text_fails failure.DiskFailed reads gains one = let e = reads.tells.0 in absurd (cc)
-  text_fails (failure.BadProtoFile n) reads gains one = let e = reads.tells.0 in absurd (cc)
-  text_fails failure.WriteFailed reads gains one = let e = reads.tells.0 in absurd (cc)
+  text_fails _ reads gains one = let e = reads.tells.0 in absurd (cc)
 
 -- a fact that holds whatever was answered, or follows from two that hold where a call succeeded
 pub when_ok : {T E P : Type 0} (r : Result T E) → P → OnOk r P

@@ -1,5 +1,5 @@
 -- What a call of the program promises where there is a disk.
-use Rattle.std.specs.Prelude.{◌≡◌, ◌⊎◌, ℕ, ⊤, true, List, [], ◌∷◌, ◌++◌, length, Option, Some, None, IfSome, option_to_list, Ok}
+use Rattle.std.specs.Prelude.{◌≡◌, ◌⊎◌, ℕ, ⊤, Bool, true, List, [], ◌∷◌, ◌++◌, length, Option, Some, None, IfSome, option_to_list, Ok, if◌then◌else◌}
 use Rattle.sz_io.specs.declared.files.Files as files
 use Rattle.sz_io.specs.declared.sink.Sink as sink
 use Rattle.sz_types.specs.Tables.{Declaration}
@@ -38,15 +38,28 @@ use Rattle.szl.specs.Resuming.{kept_job, source_of, unless_journal, outcome_of_r
 use Rattle.szl.specs.Savable.{savable}
 use Rattle.szl.specs.Shards.{job_of}
 
+-- the settings of the job that is to be resumed, if one is asked for and there is a disk for its journal
+abbrev pub job_asked : (has_disk : Bool) → Option Settings → Option RunSettings
+job_asked has_disk (Some (Resume s)) = if has_disk then Some s else None
+job_asked has_disk _ = None
+
+-- something is so of the settings of a job that is resumed, and where there is none something else
+abbrev pub IfJob : Option RunSettings → (RunSettings → Type 0) → Type 0 → Type 0
+IfJob (Some s) IsSo other = IsSo s
+IfJob None IsSo other = other
+
 -- something is so of the settings of a job that is resumed, and of other commands something else
 abbrev pub ByCommand : Option Settings → (RunSettings → Type 0) → Type 0 → Type 0
-ByCommand (Some (Resume s)) IsSo other = IsSo s
-ByCommand asked IsSo other = other
+ByCommand asked IsSo other = IfJob (job_asked true asked) IsSo other
+
+-- the names that settings may open, in order, of which this is the job that is resumed, if one is
+abbrev pub names_by : Option RunSettings → Option Settings → List (List ℕ)
+names_by (Some s) asked = option_to_list s.proto ++ s.program ∷ s.input ∷ []
+names_by None asked = names_asked asked
 
 -- the names that settings may open where there is a disk, in order
 abbrev pub names_on_disk : Option Settings → List (List ℕ)
-names_on_disk (Some (Resume s)) = option_to_list s.proto ++ s.program ∷ s.input ∷ []
-names_on_disk asked = names_asked asked
+names_on_disk asked = names_by (job_asked true asked) asked
 
 -- What is so of a program that the words ask for, and of its statics, where this is what was read, and these types are known: if the program can be
 -- run and saved, and no static faults

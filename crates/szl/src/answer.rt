@@ -1,12 +1,11 @@
 //! What a command line is answered, before anything is written.
-ghost use Rattle.std.specs.Prelude.{◌≡◌, ◌<◌, ◌≤◌, ◌++◌, ◌∷◌, [], ℕ, List, length, map, string_bytes, Option, Some, true, IfOk, OnOk};
+ghost use Rattle.std.specs.Prelude.{◌≡◌, ◌<◌, ◌≤◌, ◌++◌, ◌∷◌, [], ℕ, List, length, Option, Some, true, IfOk, OnOk};
 ghost use Rattle.sz_io.specs.Rose.{Rose};
 ghost use Rattle.sz_io.specs.Opened.{KeepsFiles};
 ghost use Rattle.sz_io.specs.Calls.{NamesGain, OpensOne, ReadToEnd};
 ghost use Rattle.sz_core.specs.Sound.{IsSound};
 ghost use Rattle.sz_mean.specs.Marked.{marked};
 ghost use Rattle.sz_words.specs.declared.settings.Settings.TheVariants.{Run, Check};
-ghost use Rattle.sz_words.specs.Settings.{settings_in};
 ghost use Rattle.sz_protofile_types.specs.Sound.{AreSound};
 ghost use Rattle.szl.specs.Opening.{ReadsText, ran_out, past_program, status_of_answer, Answers, AnswersWith, AnswersOn, AnswersText, AnswersCheck};
 ghost use Rattle.szl.specs.Outcome.{outcome_of_program};
@@ -35,28 +34,9 @@ use sz_io::{Files, Gate};
 use sz_protofile_types::NamedTypes;
 use sz_refusals::{FIRST_PLACE, MOST_PROGRAM_BYTES};
 use sz_types::Text;
-use sz_words::{RunSettings, Settings, read_words};
+use sz_words::{RunSettings, Settings};
 
-/// The text that the words ask for, or why there is none.
-pub fn answer<R: Threads + Sync, F: Files, G: Gate + Sync>(
-    rt: &R,
-    alloc: Global,
-    words: &[String],
-    files: &mut F,
-    gate: &G,
-    stack: Stack,
-) -> Result<Vec<u8>, Failure>
-    requires { length (F.names files.old) ≤ most_before (settings_in (map string_bytes words.now)) }
-    ensures value { Answers F.Files (settings_in (map string_bytes words.now)) files.old files.new (vec_items_of result) }
-    ensures end { OnOk result (AreReadToEnd F.Files files.old files.new (names_asked (settings_in (map string_bytes words.now)))) }
-    ensures saved { IfOk result (λ bytes. IfSaving (settings_in (map string_bytes words.now)) (λ s. HasSaved F.Files s files.old bytes.items)) }
-    ensures kept { KeepsFiles F.held F.left F.given F.faults files.old files.new }
-{
-    let settings = read_words(alloc, words)?;
-    answer_settings(rt, alloc, &settings, files, gate, stack)
-}
-
-/// The text that the settings ask for. A job that is resumed needs a disk: without one this is no command line.
+/// The text that the settings ask for, or why there is none. A job that is resumed needs a disk: without one this is no command line.
 pub fn answer_settings<R: Threads + Sync, F: Files, G: Gate + Sync>(
     rt: &R,
     alloc: Global,

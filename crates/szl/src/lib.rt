@@ -17,6 +17,7 @@ mod reserved;
 mod resuming;
 mod savable;
 mod selftest;
+mod setup;
 mod status;
 mod top;
 
@@ -26,5 +27,6 @@ pub use laws::{
     files_are_read_once, merged_runs_are_one_run, merging_ends_once, outcomes_forget_the_deaths,
     outcomes_forget_the_workers, readings_are_unique, sizes_are_shards,
 };
+pub use setup::Setup;
 pub use status::Status;
-pub use top::{szl_disk_main, szl_disk_main_on, szl_main, szl_main_on};
+pub use top::{szl_disk_main, szl_disk_main_on, szl_main};

@@ -1,5 +1,5 @@
 //! A job that is resumed: its rounds are kept in a journal, and it goes on after the last one.
-ghost use Rattle.std.specs.Prelude.{◌≡◌, ◌<◌, ◌≤◌, ◌^◌, ◌++◌, ◌∷◌, [], ℕ, List, length, map, string_bytes, Some, true, false, IfOk, OnOk, IsErrOf};
+ghost use Rattle.std.specs.Prelude.{◌≡◌, ◌<◌, ◌≤◌, ◌^◌, ◌++◌, ◌∷◌, [], ℕ, List, length, map, string_bytes, None, Some, true, false, IfOk, OnOk, IfSome, IfNone, IsErrOf};
 ghost use Rattle.sz_io.specs.Rose.{Rose};
 ghost use Rattle.sz_io.specs.Opened.{KeepsFiles};
 ghost use Rattle.sz_io.specs.Calls.{ReadToEnd};
@@ -28,7 +28,7 @@ ghost use Rattle.szl.specs.Opening.{Answers, status_of_answer};
 ghost use Rattle.szl.specs.ProgramRuns.{CanSave, vec_items_of};
 ghost use Rattle.szl.specs.Promise.{AreReadToEnd, most_before};
 ghost use Rattle.szl.specs.ProtoReads.{HaveTypeBytes};
-ghost use Rattle.szl.specs.ResumePromise.{ByCommand, IfSpelled, IsJobOutcome, IsNameFor, KeepsDisk, KeepsEntries, KeepsJob, KeepsJournal, names_on_disk};
+ghost use Rattle.szl.specs.ResumePromise.{IfJob, IfSpelled, IsJobOutcome, IsNameFor, KeepsDisk, KeepsEntries, KeepsJob, KeepsJournal, job_asked, names_by, names_on_disk};
 ghost use Rattle.szl.specs.Resuming.{kept_job, source_of, triple_of};
 ghost use Rattle.szl.specs.Saving.{HasSaved, IfSaving};
 
@@ -39,6 +39,7 @@ use crate::judge::tree_in;
 use crate::program_run::job_with_workers;
 use crate::proto::{TypesFile, file_named};
 use crate::savable::savable;
+use crate::setup::Setup;
 use std::alloc::Global;
 use std::thread::Threads;
 use sz_attempt::Job;
@@ -54,8 +55,7 @@ use sz_save::Saved;
 use sz_value::{NoMemory, Octets};
 use sz_words::{Kill, RunSettings, Settings, read_words};
 
-/// The text that the words ask for where there is a disk, or why there is none. A job that is resumed has its journal there; no other
-/// command calls the disk.
+/// The text that the words ask for, or why there is none. A job that is resumed has its journal on the disk; no other command calls it.
 pub fn answer_on_disk<R: Threads + Sync, F: Files, G: Gate + Sync, K: Disk>(
     rt: &R,
     alloc: Global,
@@ -63,17 +63,18 @@ pub fn answer_on_disk<R: Threads + Sync, F: Files, G: Gate + Sync, K: Disk>(
     files: &mut F,
     gate: &G,
     disk: &mut K,
-    stack: Stack,
+    setup: Setup,
 ) -> Result<Vec<u8>, Failure>
     requires { length (F.names files.old) ≤ most_before (settings_in (map string_bytes words.now)) }
 
-    ensures value { ByCommand (settings_in (map string_bytes words.now))
+    ensures value { IfJob (job_asked setup.has_disk (settings_in (map string_bytes words.now)))
         (λ s. AnswersJob F.Files (λ status outcome. IsJobOutcome F.Files K.Disk s status files.old disk.old outcome) (names_on_disk (Some (Resume s))) (λ n. n)
         files.old files.new (vec_items_of result))
         (Answers F.Files (settings_in (map string_bytes words.now)) files.old files.new (vec_items_of result)) }
-    ensures end { OnOk result (AreReadToEnd F.Files files.old files.new (names_on_disk (settings_in (map string_bytes words.now)))) }
+    ensures end { OnOk result (AreReadToEnd F.Files files.old files.new
+        (names_by (job_asked setup.has_disk (settings_in (map string_bytes words.now))) (settings_in (map string_bytes words.now)))) }
     ensures saved { IfOk result (λ bytes. IfSaving (settings_in (map string_bytes words.now)) (λ s. HasSaved F.Files s files.old bytes.items)) }
-    ensures stopped { ByCommand (settings_in (map string_bytes words.now))
+    ensures stopped { IfJob (job_asked setup.has_disk (settings_in (map string_bytes words.now)))
         (λ s. KeepsJournal F.Files K.Disk s (status_of_answer (vec_items_of result)) files.old disk.old disk.new) (disk.new ≡ disk.old) }
 
     ensures disk_failed { IsErrOf result Failure.DiskFailed → Rose (K.faults disk.old) (K.faults disk.new) }
@@ -82,9 +83,20 @@ pub fn answer_on_disk<R: Threads + Sync, F: Files, G: Gate + Sync, K: Disk>(
     ensures faults { DoesNotFall (K.faults disk.old) (K.faults disk.new) }
 {
     let settings = read_words(alloc, words)?;
-    match &settings {
-        Settings::Resume(run) => answer_resume(rt, alloc, run, files, gate, disk, stack),
-        _ => answer_settings(rt, alloc, &settings, files, gate, stack),
+    match job_asked(&settings, setup.has_disk) {
+        Some(job) => answer_resume(rt, alloc, job, files, gate, disk, setup.stack),
+        None => answer_settings(rt, alloc, &settings, files, gate, setup.stack),
+    }
+}
+
+/// The settings of the job that is to be resumed, if one is asked for and there is a disk for its journal.
+fn job_asked(settings: &Settings, has_disk: bool) -> Option<&RunSettings>
+    ensures some { IfSome result (λ job. (has_disk ≡ true) × (settings.now ≡ Resume job.now)) }
+    ensures none { IfNone result (job_asked has_disk (Some settings.now) ≡ None) }
+{
+    match settings {
+        Settings::Resume(job) if has_disk => Some(job),
+        _ => None,
     }
 }
 

@@ -9,11 +9,10 @@ ghost use Rattle.szl.specs.Promise.{MeansSource, AreReadToEnd, names_asked, most
 ghost use Rattle.sz_io.specs.Calls.{GainsLine};
 ghost use Rattle.szl.specs.Completeness.{Completes};
 ghost use Rattle.szl.specs.Saving.{SavesOutput};
-ghost use Rattle.szl.specs.ResumePromise.{ByCommand, MeansJob, CompletesJob, KeepsJournal, names_on_disk};
+ghost use Rattle.szl.specs.ResumePromise.{ByCommand, IfJob, MeansJob, CompletesJob, KeepsJournal, job_asked, names_by, names_on_disk};
 ghost use Rattle.sz_disk.specs.Crashing.{DoesNotFall};
 ghost use Rattle.szl.specs.ProgramRuns.{vec_items_of};
 
-use crate::answer::answer;
 use crate::failure::Failure;
 use crate::heights::Stack;
 use crate::lines::{
@@ -22,6 +21,7 @@ use crate::lines::{
 };
 use crate::proto::bad_file_line;
 use crate::resuming::answer_on_disk;
+use crate::setup::{NoDisk, Setup};
 use crate::status::Status;
 use std::alloc::{AllocError, Global};
 use std::thread::Threads;
@@ -65,42 +65,11 @@ pub fn szl_main<R: Threads + Sync, F: Files, O: Sink, E: Sink, G: Gate + Sync>(
     ensures err_counts { DoNotFall E.faults E.refusals err.old err.new }
     ensures quiet { result ≡ Status.Done → err.new ≡ err.old }
 {
-    szl_main_on(rt, alloc, words, files, out, err, gate, Stack::Large)
-}
-
-/// The same as `szl_main` on the stack that the caller has. Where it isn't enough for the types of the program, that counts as want of
-/// memory: a caller has a small stack only where it got no memory for a large one.
-pub fn szl_main_on<R: Threads + Sync, F: Files, O: Sink, E: Sink, G: Gate + Sync>(
-    rt: &R,
-    alloc: Global,
-    words: &[String],
-    files: &mut F,
-    out: &mut O,
-    err: &mut E,
-    gate: &G,
-    stack: Stack,
-) -> Status
-    requires { length (F.names files.old) ≤ most_before (settings_in (map string_bytes words.now)) }
-
-    ensures outcome { MeansSource F.Files O.Sink E.Sink (map string_bytes words.now) result files.old files.new out.old out.new err.old err.new }
-    ensures end { result ≡ Status.Done → AreReadToEnd F.Files files.old files.new (names_asked (settings_in (map string_bytes words.now))) }
-    ensures saved { result ≡ Status.Done → SavesOutput F.Files O.Sink (settings_in (map string_bytes words.now)) files.old out.old out.new }
-
-    ensures read_failed { result ≡ Status.ReadFailed → Rose (F.faults files.old) (F.faults files.new) }
-    ensures write_failed { result ≡ Status.WriteFailed → Rose (O.faults out.old) (O.faults out.new) }
-    ensures complete { (Rose (F.faults files.old) (F.faults files.new) → ⊥) → (Rose (O.faults out.old) (O.faults out.new) → ⊥)
-        → Completes F.Files O.Sink E.Sink (map string_bytes words.now) result files.old files.new out.old out.new err.old err.new }
-
-    ensures kept { KeepsFiles F.held F.left F.given F.faults files.old files.new }
-    ensures out_counts { DoNotFall O.faults O.refusals out.old out.new }
-    ensures err_counts { DoNotFall E.faults E.refusals err.old err.new }
-    ensures quiet { result ≡ Status.Done → err.new ≡ err.old }
-{
-    let answer = answer(rt, alloc, words, files, gate, stack);
-    match print(out, answer) {
-        Ok(()) => Status::Done,
-        Err(failure) => tell(alloc, err, failure).status(),
-    }
+    let setup = Setup {
+        stack: Stack::Large,
+        has_disk: false,
+    };
+    szl_disk_main_on(rt, alloc, words, files, out, err, gate, &mut NoDisk, setup)
 }
 
 /// The same as `szl_main` where there is a disk: a job that is resumed has its journal there, from the disk's first byte on, and places in its line
@@ -139,10 +108,14 @@ pub fn szl_disk_main<R: Threads + Sync, F: Files, O: Sink, E: Sink, G: Gate + Sy
     ensures quiet { result ≡ Status.Done → err.new ≡ err.old }
     ensures disk_counts { DoesNotFall (K.faults disk.old) (K.faults disk.new) }
 {
-    szl_disk_main_on(rt, alloc, words, files, out, err, gate, disk, Stack::Large)
+    let setup = Setup {
+        stack: Stack::Large,
+        has_disk: true,
+    };
+    szl_disk_main_on(rt, alloc, words, files, out, err, gate, disk, setup)
 }
 
-/// The same as `szl_disk_main` on the stack that the caller has.
+/// The same as `szl_disk_main` for what the caller has: this stack, and the disk or none. Without one it is the same as `szl_main`.
 pub fn szl_disk_main_on<R: Threads + Sync, F: Files, O: Sink, E: Sink, G: Gate + Sync, K: Disk>(
     rt: &R,
     alloc: Global,
@@ -152,23 +125,24 @@ pub fn szl_disk_main_on<R: Threads + Sync, F: Files, O: Sink, E: Sink, G: Gate +
     err: &mut E,
     gate: &G,
     disk: &mut K,
-    stack: Stack,
+    setup: Setup,
 ) -> Status
     requires { length (F.names files.old) ≤ most_before (settings_in (map string_bytes words.now)) }
 
-    ensures outcome { ByCommand (settings_in (map string_bytes words.now))
+    ensures outcome { IfJob (job_asked setup.has_disk (settings_in (map string_bytes words.now)))
         (λ s. MeansJob F.Files O.Sink E.Sink K.Disk s result files.old files.new out.old out.new err.old err.new disk.old)
         (MeansSource F.Files O.Sink E.Sink (map string_bytes words.now) result files.old files.new out.old out.new err.old err.new) }
-    ensures end { result ≡ Status.Done → AreReadToEnd F.Files files.old files.new (names_on_disk (settings_in (map string_bytes words.now))) }
+    ensures end { result ≡ Status.Done → AreReadToEnd F.Files files.old files.new
+        (names_by (job_asked setup.has_disk (settings_in (map string_bytes words.now))) (settings_in (map string_bytes words.now))) }
     ensures saved { result ≡ Status.Done → SavesOutput F.Files O.Sink (settings_in (map string_bytes words.now)) files.old out.old out.new }
-    ensures journal { ByCommand (settings_in (map string_bytes words.now)) (λ s. KeepsJournal F.Files K.Disk s result files.old disk.old disk.new)
-        (disk.new ≡ disk.old) }
+    ensures journal { IfJob (job_asked setup.has_disk (settings_in (map string_bytes words.now)))
+        (λ s. KeepsJournal F.Files K.Disk s result files.old disk.old disk.new) (disk.new ≡ disk.old) }
 
     ensures read_failed { result ≡ Status.ReadFailed → Rose (F.faults files.old) (F.faults files.new) }
     ensures write_failed { result ≡ Status.WriteFailed → Rose (O.faults out.old) (O.faults out.new) }
     ensures disk_failed { result ≡ Status.DiskFailed → Rose (K.faults disk.old) (K.faults disk.new) }
     ensures complete { (Rose (F.faults files.old) (F.faults files.new) → ⊥) → (Rose (O.faults out.old) (O.faults out.new) → ⊥)
-        → ByCommand (settings_in (map string_bytes words.now)) (λ s. (Rose (K.faults disk.old) (K.faults disk.new) → ⊥)
+        → IfJob (job_asked setup.has_disk (settings_in (map string_bytes words.now))) (λ s. (Rose (K.faults disk.old) (K.faults disk.new) → ⊥)
         → CompletesJob F.Files O.Sink E.Sink K.Disk s result files.old files.new out.old out.new err.old err.new disk.old)
         (Completes F.Files O.Sink E.Sink (map string_bytes words.now) result files.old files.new out.old out.new err.old err.new) }
 
@@ -178,7 +152,7 @@ pub fn szl_disk_main_on<R: Threads + Sync, F: Files, O: Sink, E: Sink, G: Gate +
     ensures quiet { result ≡ Status.Done → err.new ≡ err.old }
     ensures disk_counts { DoesNotFall (K.faults disk.old) (K.faults disk.new) }
 {
-    let answer = answer_on_disk(rt, alloc, words, files, gate, disk, stack);
+    let answer = answer_on_disk(rt, alloc, words, files, gate, disk, setup);
     match print(out, answer) {
         Ok(()) => Status::Done,
         Err(failure) => tell(alloc, err, failure).status(),

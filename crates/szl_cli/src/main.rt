@@ -10,7 +10,7 @@ use std::thread::{self, Builder, Threads};
 use sz_disk::OsDisk;
 use sz_io::{NoGate, OsFiles, OsSink, write_line};
 use sz_process::{Stream, given_words, stand_ins};
-use szl::{Stack, Status, szl_disk_main_on};
+use szl::{Setup, Stack, Status, szl_disk_main_on};
 
 /// Tells why no command line is run, and gives the exit status.
 fn tell(err: Stderr, line: &[u8], status: Status) -> ExitCode {
@@ -32,8 +32,12 @@ fn run<R: Threads + Sync + Files + Input>(
     let mut out = OsSink::new(out);
     let mut err = OsSink::new(err);
     let mut disk = disk;
+    let setup = Setup {
+        stack,
+        has_disk: true,
+    };
     let status = szl_disk_main_on(
-        rt, alloc, words, &mut files, &mut out, &mut err, &NoGate, &mut disk, stack,
+        rt, alloc, words, &mut files, &mut out, &mut err, &NoGate, &mut disk, setup,
     );
     status.code()
 }

@@ -6,11 +6,11 @@ use Rattle.szl.specs.declared.status.Status.TheVariants as status
 use Rattle.szl.specs.Opening.{status_of_answer}
 use Rattle.szl.specs.Promise.{MeansSource}
 use Rattle.szl.specs.ProgramRuns.{vec_items_of}
-use Rattle.szl.specs.ResumePromise.{ByCommand, MeansJob, KeepsJournal}
+use Rattle.szl.specs.ResumePromise.{IfJob, MeansJob, KeepsJournal, job_asked}
 use Rattle.szl.proofs.MainLemmas.{means_done, means_failure}
 use Rattle.szl.proofs.CompleteLemmas.{completes}
 use Rattle.szl.proofs.SavedLemmas.{printed_saves}
-use Rattle.szl.proofs.ResumedMainLemmas.{job_done, job_failed, each_command, completes_job, keeps_under, printed_done, read_told, write_told}
+use Rattle.szl.proofs.ResumedMainLemmas.{job_done, job_failed, each_job, completes_job, keeps_under, printed_done, read_told, write_told}
 use Rattle.szl.proofs.KeepLemmas.{not_done}
 use Rattle.szl.proofs.top.szl_disk_main_on.Goals as goal
 
@@ -25,10 +25,10 @@ returns-in-Err-clause-outcome g c =
     let new = c.answer_on_disk-answer.new.files in
     let made = vec_items_of c.answer_on_disk-answer.result in
     let disk = c.args.disk.now in
-    subst (λ st. ByCommand (settings_in words)
+    subst (λ st. IfJob (job_asked c.args.setup.has_disk (settings_in words))
     (λ s. MeansJob files out err g.K.Disk s st old new c.args.out.now c.print.new.out c.args.err.now c.tell.new.err disk)
     (MeansSource files out err words st old new c.args.out.now c.print.new.out c.args.err.now c.tell.new.err)) (sym c.status.ensures.value)
-    (each_command (settings_in words) _ _ _ _
+    (each_job (job_asked c.args.setup.has_disk (settings_in words)) _ _ _ _
     (λ s a. job_failed files g.K.Disk s old disk out err new c.args.out.now c.print.new.out c.args.err.now c.tell.new.err c.in-Err.failure c.tell.result made a
     c.in-Err.ensures.value c.in-Err.ensures.nothing c.tell.ensures.told c.tell.ensures.line)
     (λ a. means_failure files out err words old new c.args.out.now c.print.new.out c.args.err.now c.tell.new.err c.in-Err.failure c.tell.result made a
@@ -38,10 +38,10 @@ returns-in-Err-clause-outcome g c =
 pub returns-in-Err-clause-journal : goal.returns-in-Err-clause-journal
 returns-in-Err-clause-journal g c =
     let made = vec_items_of c.answer_on_disk-answer.result in
-    subst (λ st. ByCommand (settings_in (map string_bytes c.args.words.now))
+    subst (λ st. IfJob (job_asked c.args.setup.has_disk (settings_in (map string_bytes c.args.words.now)))
     (λ s. KeepsJournal g.F.Files g.K.Disk s st c.args.files.now c.args.disk.now c.answer_on_disk-answer.new.disk)
     (c.answer_on_disk-answer.new.disk ≡ c.args.disk.now)) (sym c.status.ensures.value)
-    (each_command (settings_in (map string_bytes c.args.words.now)) _ _ _ _
+    (each_job (job_asked c.args.setup.has_disk (settings_in (map string_bytes c.args.words.now))) _ _ _ _
     (λ s k. keeps_under g.F.Files g.K.Disk s (status_of_answer made) _ c.args.files.now c.args.disk.now c.answer_on_disk-answer.new.disk
     (λ e. absurd (not_done c.tell.result e)) k) (λ same. same) c.answer_on_disk-answer.ensures.stopped)
 
@@ -53,7 +53,7 @@ returns-in-Ok-clause-outcome g c =
     let old = c.args.files.now in
     let new = c.answer_on_disk-answer.new.files in
     let made = vec_items_of c.answer_on_disk-answer.result in
-    each_command (settings_in words) _ _ _ _
+    each_job (job_asked c.args.setup.has_disk (settings_in words)) _ _ _ _
     (λ s a. job_done files g.K.Disk s old c.args.disk.now g.O.Sink g.E.Sink new c.args.out.now c.print.new.out c.args.err.now made c.in-Ok.field-0 a
     c.in-Ok.ensures.value c.in-Ok.ensures.nothing)
     (λ a. means_done files g.O.Sink g.E.Sink words old new c.args.out.now c.print.new.out c.args.err.now made c.in-Ok.field-0 a c.in-Ok.ensures.value
@@ -63,7 +63,7 @@ returns-in-Ok-clause-outcome g c =
 pub returns-in-Ok-clause-journal : goal.returns-in-Ok-clause-journal
 returns-in-Ok-clause-journal g c =
     let made = vec_items_of c.answer_on_disk-answer.result in
-    each_command (settings_in (map string_bytes c.args.words.now)) _ _ _ _
+    each_job (job_asked c.args.setup.has_disk (settings_in (map string_bytes c.args.words.now))) _ _ _ _
     (λ s k. keeps_under g.F.Files g.K.Disk s (status_of_answer made) _ c.args.files.now c.args.disk.now c.answer_on_disk-answer.new.disk
     (λ e. printed_done made c.in-Ok.field-0 _ _ c.in-Ok.ensures.value) k) (λ same. same) c.answer_on_disk-answer.ensures.stopped
 
@@ -80,13 +80,15 @@ returns-in-Ok-clause-saved g c done =
 -- a read or a write that failed was counted
 pub returns-in-Err-clause-read_failed : goal.returns-in-Err-clause-read_failed
 returns-in-Err-clause-read_failed g c is =
-    read_told g.F.Files g.K.Disk c.args.files.now c.answer_on_disk-answer.new.files c.args.disk.now (settings_in (map string_bytes c.args.words.now))
+    read_told g.F.Files g.K.Disk c.args.files.now c.answer_on_disk-answer.new.files c.args.disk.now
+    (job_asked c.args.setup.has_disk (settings_in (map string_bytes c.args.words.now))) (settings_in (map string_bytes c.args.words.now))
     (vec_items_of c.answer_on_disk-answer.result) c.answer_on_disk-answer.ensures.value c.in-Err.failure c.tell.result c.tell.ensures.told
     (g.O.Sink.taken c.args.out.now) (g.O.Sink.taken c.print.new.out) c.in-Err.ensures.value (sym c.status.ensures.value ∙ is)
 
 pub returns-in-Err-clause-write_failed : goal.returns-in-Err-clause-write_failed
 returns-in-Err-clause-write_failed g c is =
-    write_told g.F.Files g.K.Disk c.args.files.now c.answer_on_disk-answer.new.files c.args.disk.now (settings_in (map string_bytes c.args.words.now))
+    write_told g.F.Files g.K.Disk c.args.files.now c.answer_on_disk-answer.new.files c.args.disk.now
+    (job_asked c.args.setup.has_disk (settings_in (map string_bytes c.args.words.now))) (settings_in (map string_bytes c.args.words.now))
     (vec_items_of c.answer_on_disk-answer.result) c.answer_on_disk-answer.ensures.value c.in-Err.failure c.tell.result c.tell.ensures.told
     (g.O.Sink.taken c.args.out.now) (g.O.Sink.taken c.print.new.out) c.in-Err.ensures.value
     (Rose (g.O.Sink.faults c.args.out.now) (g.O.Sink.faults c.print.new.out)) (λ same. c.in-Err.ensures.failed (ap Err same))
@@ -99,7 +101,7 @@ returns-in-Err-clause-disk_failed g c = search rules
 pub returns-in-Err-clause-complete : goal.returns-in-Err-clause-complete
 returns-in-Err-clause-complete g c no_read no_write =
     let words = map string_bytes c.args.words.now in
-    each_command (settings_in words) _ _ _ _
+    each_job (job_asked c.args.setup.has_disk (settings_in words)) _ _ _ _
     (λ s m no_disk. completes_job g.F.Files g.O.Sink g.E.Sink g.K.Disk s c.status.result c.args.files.now c.answer_on_disk-answer.new.files
     c.args.out.now c.print.new.out c.args.err.now c.tell.new.err c.args.disk.now m (λ is. no_read (returns-in-Err-clause-read_failed g c is))
     (λ is. no_write (returns-in-Err-clause-write_failed g c is)) (λ is. no_disk (returns-in-Err-clause-disk_failed g c is)))
@@ -111,7 +113,7 @@ returns-in-Err-clause-complete g c no_read no_write =
 pub returns-in-Ok-clause-complete : goal.returns-in-Ok-clause-complete
 returns-in-Ok-clause-complete g c no_read no_write =
     let words = map string_bytes c.args.words.now in
-    each_command (settings_in words) _ _ _ _
+    each_job (job_asked c.args.setup.has_disk (settings_in words)) _ _ _ _
     (λ s m no_disk. completes_job g.F.Files g.O.Sink g.E.Sink g.K.Disk s status.Done c.args.files.now c.answer_on_disk-answer.new.files
     c.args.out.now c.print.new.out c.args.err.now c.args.err.now c.args.disk.now m (λ is. cc) (λ is. cc) (λ is. cc))
     (λ m. completes g.F.Files g.O.Sink g.E.Sink words status.Done c.args.files.now c.answer_on_disk-answer.new.files c.args.out.now
