@@ -4,6 +4,7 @@
 mod halt;
 mod laws;
 mod resume;
+mod resumed_job;
 mod round;
 mod skip;
 mod tables;
@@ -11,3 +12,4 @@ mod tables;
 pub use halt::Halt;
 pub use laws::stops_leave_the_job;
 pub use resume::resume_file;
+pub use resumed_job::ResumedJob;

@@ -4,8 +4,6 @@ ghost use Rattle.std.specs.Io.KnownBytes.{IsAtEnd};
 ghost use Rattle.sz_io.specs.Rose.{Rose};
 ghost use Rattle.sz_io.specs.Opened.{KeepsOtherFiles};
 ghost use Rattle.sz_mean.specs.Marked.{all_tables};
-ghost use Rattle.sz_save.specs.Saving.{HaveSpelling};
-ghost use Rattle.sz_attempt.specs.Shards.{IsJob};
 ghost use Rattle.sz_disk.specs.Crashes.{are_told};
 ghost use Rattle.sz_disk.specs.Crashing.{Rests, LeavesOnly, DoesNotFall};
 ghost use Rattle.sz_journal.specs.Journal.{rounds_of, last_gate, KeepsRounds};
@@ -22,24 +20,24 @@ ghost use Rattle.sz_resume.specs.Entries.{done_of};
 ghost use Rattle.sz_resume.specs.Turns.{AllStand, IsAfter, HasNext, AddsRound, StopsHalt, EndsSo};
 ghost use Rattle.sz_resume.specs.Stops.{AreSmall, LeavesRounds, SpellsMore, HoldsAll};
 ghost use Rattle.sz_resume.specs.Runs.{IsJournalOf, HasJournal, RunsSource, TellsShort};
+ghost use Rattle.sz_resume.specs.Resumable.{CanResume, source_in};
 
 use crate::halt::{Halt, of_disk, of_file};
+use crate::resumed_job::ResumedJob;
 use crate::round::{done_after, round_entry};
 use crate::skip::skip;
 use crate::tables::tables_of;
 use std::alloc::Global;
 use std::thread::Threads;
-use sz_attempt::Job;
 use sz_disk::Disk;
 use sz_io::{Files, Gate, OutsideError};
 use sz_journal::Journal;
 use sz_records::Ending;
 use sz_save::Saved;
 use sz_stream::{Done, Intake, PIECE_BYTES, Stop, fill, run_at_hand};
-use sz_words::RunSettings;
 
-/// The tables of all that the records of an opened file emit, by the frame and shards of these settings; or why there are none. Their bound is the
-/// number of all records times the job's budget. Of the settings the frame and `shard` alone are looked at; all else is the job's.
+/// The tables of all that the records of an opened file emit, which are told apart and cut into shards as the resumed job says; or why there are none.
+/// Their bound is the number of all records times the job's budget.
 ///
 /// The input is what is left of the file. The bytes of the rounds that the job's journal has are read and dropped. Behind them the file is run as by
 /// `run_file`, and each round is appended to the journal before the next one is run. So the journal has all rounds before the one that decides.
@@ -49,9 +47,7 @@ use sz_words::RunSettings;
 pub fn resume_file<R: Threads + Sync, F: Files, G: Gate + Sync, K: Disk>(
     rt: &R,
     alloc: Global,
-    job: &Job,
-    settings: &RunSettings,
-    workers: u32,
+    run: &ResumedJob,
     files: &mut F,
     file: u32,
     gate: &G,
@@ -59,16 +55,12 @@ pub fn resume_file<R: Threads + Sync, F: Files, G: Gate + Sync, K: Disk>(
     disk: &mut K,
 ) -> Result<Saved, Halt>
     requires given { IsTrue (F.given files.old file) }
-    requires job { IsJob job.now }
-    requires attempts { (1 ≤ job.now.attempts) × (job.now.attempts ≤ 8) }
-    requires workers { (1 ≤ workers) × (workers ≤ 64) }
-    requires shard { 1 ≤ settings.now.shard }
-    requires spelled { HaveSpelling (all_tables job.now.compiled) }
-    requires journal { HasJournal job.now journal.old (K.bytes disk.old) }
+    requires can_resume { CanResume run.now }
+    requires journal { HasJournal run.now.job journal.old (K.bytes disk.old) }
 
     ensures value { (input held : List ℕ) (name : JobBytes) → F.left files.old file ≡ Some input → K.bytes disk.old ≡ Some held
-        → IsFound name job.now (record { frame = settings.now.frame; most = settings.now.shard; bytes = input }) held (rounds_of journal.old)
-        → RunsSource job.now journal.old (record { frame = settings.now.frame; most = settings.now.shard; bytes = input }) result }
+        → IsFound name run.now.job (source_in run.now input) held (rounds_of journal.old)
+        → RunsSource run.now.job journal.old (source_in run.now input) result }
     ensures short { IfSome (F.left files.old file) (λ input. TellsShort journal.old input result) }
     ensures gate { (gate : ℕ) → IsErrOf result (Halt.Short gate) → (gate ≡ last_gate journal.old) × (0 < (last_progress (rounds_of journal.old)).bytes) }
     ensures short_keeps { (gate : ℕ) → IsErrOf result (Halt.Short gate) → (disk.new ≡ disk.old) × (journal.new ≡ journal.old) }
@@ -78,19 +70,17 @@ pub fn resume_file<R: Threads + Sync, F: Files, G: Gate + Sync, K: Disk>(
         × AreSmall (last_progress (rounds_of journal.old)) added) }
 
     ensures stopped { (input held : List ℕ) (name : JobBytes) → F.left files.old file ≡ Some input → Rests (K.bytes disk.old) (K.may_leave disk.old) held
-        → are_told (K.may_leave disk.old) ≡ true → IsJournalOf name job.now journal.old (K.bytes disk.old)
-        → IsFound name job.now (record { frame = settings.now.frame; most = settings.now.shard; bytes = input }) held (rounds_of journal.old)
-        → (added : List RoundEntry) × LeavesRounds K.time K.left_since disk.old disk.new name job.now
-        (record { frame = settings.now.frame; most = settings.now.shard; bytes = input }) held (rounds_of journal.old) added
+        → are_told (K.may_leave disk.old) ≡ true → IsJournalOf name run.now.job journal.old (K.bytes disk.old)
+        → IsFound name run.now.job (source_in run.now input) held (rounds_of journal.old)
+        → (added : List RoundEntry) × LeavesRounds K.time K.left_since disk.old disk.new name run.now.job (source_in run.now input) held (rounds_of journal.old) added
         × OnOk result (rounds_of journal.new ≡ rounds_of journal.old ++ added) }
     ensures entries { (name : JobBytes) (held : List ℕ) → Rests (K.bytes disk.old) (K.may_leave disk.old) held → are_told (K.may_leave disk.old) ≡ true
-        → IsJournalOf name job.now journal.old (K.bytes disk.old)
-        → LeavesOnly K.time K.left_since disk.old disk.new (SpellsMore name (all_tables job.now.compiled) (rounds_of journal.old)) }
+        → IsJournalOf name run.now.job journal.old (K.bytes disk.old)
+        → LeavesOnly K.time K.left_since disk.old disk.new (SpellsMore name (all_tables run.now.job.compiled) (rounds_of journal.old)) }
     ensures ended { (input held : List ℕ) (name : JobBytes) → F.left files.old file ≡ Some input → Rests (K.bytes disk.old) (K.may_leave disk.old) held
-        → IsJournalOf name job.now journal.old (K.bytes disk.old)
-        → IsFound name job.now (record { frame = settings.now.frame; most = settings.now.shard; bytes = input }) held (rounds_of journal.old)
-        → OnOk result (HoldsAll (K.bytes disk.new) (K.may_leave disk.new) name job.now
-        (record { frame = settings.now.frame; most = settings.now.shard; bytes = input }) (rounds_of journal.new)) }
+        → IsJournalOf name run.now.job journal.old (K.bytes disk.old)
+        → IsFound name run.now.job (source_in run.now input) held (rounds_of journal.old)
+        → OnOk result (HoldsAll (K.bytes disk.new) (K.may_leave disk.new) name run.now.job (source_in run.now input) (rounds_of journal.new)) }
 
     ensures failed { IsErrOf result (Halt.Stopped Stop.ReadFailed) → Rose (F.faults files.old) (F.faults files.new) }
     ensures disk_failed { IsErrOf result Halt.DiskFailed → Rose (K.faults disk.old) (K.faults disk.new) }
@@ -107,9 +97,7 @@ pub fn resume_file<R: Threads + Sync, F: Files, G: Gate + Sync, K: Disk>(
     run_after(
         rt,
         alloc,
-        job,
-        settings,
-        workers,
+        run,
         files,
         file,
         &mut buffer,
@@ -124,9 +112,7 @@ pub fn resume_file<R: Threads + Sync, F: Files, G: Gate + Sync, K: Disk>(
 fn run_after<R: Threads + Sync, F: Files, G: Gate + Sync, K: Disk>(
     rt: &R,
     alloc: Global,
-    job: &Job,
-    settings: &RunSettings,
-    workers: u32,
+    run: &ResumedJob,
     files: &mut F,
     file: u32,
     buffer: &mut [u8],
@@ -137,19 +123,15 @@ fn run_after<R: Threads + Sync, F: Files, G: Gate + Sync, K: Disk>(
 ) -> Result<Saved, Halt>
     requires given { IsTrue (F.given files.old file) }
     requires room { 0 < length buffer.old }
-    requires job { IsJob job.now }
-    requires attempts { (1 ≤ job.now.attempts) × (job.now.attempts ≤ 8) }
-    requires workers { (1 ≤ workers) × (workers ≤ 64) }
-    requires shard { 1 ≤ settings.now.shard }
-    requires spelled { HaveSpelling (all_tables job.now.compiled) }
-    requires journal { HasJournal job.now journal.old (K.bytes disk.old) }
+    requires can_resume { CanResume run.now }
+    requires journal { HasJournal run.now.job journal.old (K.bytes disk.old) }
     requires done { done ≡ done_of (last_progress (rounds_of journal.old)) }
     requires can { CanGoOn done }
-    requires passed { done.passed ≤ job.now.skip }
+    requires passed { done.passed ≤ run.now.job.skip }
 
     ensures value { (input : List ℕ) → F.left files.old file ≡ Some (drop (last_progress (rounds_of journal.old)).bytes input)
-        → AllStand job.now (record { frame = settings.now.frame; most = settings.now.shard; bytes = input }) (rounds_of journal.old)
-        → RunsSource job.now journal.old (record { frame = settings.now.frame; most = settings.now.shard; bytes = input }) result }
+        → AllStand run.now.job (source_in run.now input) (rounds_of journal.old)
+        → RunsSource run.now.job journal.old (source_in run.now input) result }
     ensures long { (gate : ℕ) → IsErrOf result (Halt.Short gate) → ⊥ }
     ensures end { OnOk result (IsAtEnd (F.left files.new file)) }
     ensures told { OnOk result (IfSome (F.left files.old file) (λ _. IsSome (F.left files.new file))) }
@@ -158,32 +140,30 @@ fn run_after<R: Threads + Sync, F: Files, G: Gate + Sync, K: Disk>(
 
     ensures stopped { (input held : List ℕ) (name : JobBytes) → F.left files.old file ≡ Some (drop (last_progress (rounds_of journal.old)).bytes input)
         → Rests (K.bytes disk.old) (K.may_leave disk.old) held → are_told (K.may_leave disk.old) ≡ true
-        → IsJournalOf name job.now journal.old (K.bytes disk.old)
-        → Stands name job.now (record { frame = settings.now.frame; most = settings.now.shard; bytes = input }) held (rounds_of journal.old)
-        → (added : List RoundEntry) × LeavesRounds K.time K.left_since disk.old disk.new name job.now
-        (record { frame = settings.now.frame; most = settings.now.shard; bytes = input }) held (rounds_of journal.old) added
+        → IsJournalOf name run.now.job journal.old (K.bytes disk.old)
+        → Stands name run.now.job (source_in run.now input) held (rounds_of journal.old)
+        → (added : List RoundEntry) × LeavesRounds K.time K.left_since disk.old disk.new name run.now.job (source_in run.now input) held (rounds_of journal.old) added
         × OnOk result (rounds_of journal.new ≡ rounds_of journal.old ++ added) }
     ensures entries { (name : JobBytes) (held : List ℕ) → Rests (K.bytes disk.old) (K.may_leave disk.old) held → are_told (K.may_leave disk.old) ≡ true
-        → IsJournalOf name job.now journal.old (K.bytes disk.old)
-        → LeavesOnly K.time K.left_since disk.old disk.new (SpellsMore name (all_tables job.now.compiled) (rounds_of journal.old)) }
+        → IsJournalOf name run.now.job journal.old (K.bytes disk.old)
+        → LeavesOnly K.time K.left_since disk.old disk.new (SpellsMore name (all_tables run.now.job.compiled) (rounds_of journal.old)) }
     ensures ended { (input held : List ℕ) (name : JobBytes) → F.left files.old file ≡ Some (drop (last_progress (rounds_of journal.old)).bytes input)
-        → Rests (K.bytes disk.old) (K.may_leave disk.old) held → IsJournalOf name job.now journal.old (K.bytes disk.old)
-        → Stands name job.now (record { frame = settings.now.frame; most = settings.now.shard; bytes = input }) held (rounds_of journal.old)
-        → OnOk result (HoldsAll (K.bytes disk.new) (K.may_leave disk.new) name job.now
-        (record { frame = settings.now.frame; most = settings.now.shard; bytes = input }) (rounds_of journal.new)) }
+        → Rests (K.bytes disk.old) (K.may_leave disk.old) held → IsJournalOf name run.now.job journal.old (K.bytes disk.old)
+        → Stands name run.now.job (source_in run.now input) held (rounds_of journal.old)
+        → OnOk result (HoldsAll (K.bytes disk.new) (K.may_leave disk.new) name run.now.job (source_in run.now input) (rounds_of journal.new)) }
 
     ensures failed { IsErrOf result (Halt.Stopped Stop.ReadFailed) → Rose (F.faults files.old) (F.faults files.new) }
     ensures disk_failed { IsErrOf result Halt.DiskFailed → Rose (K.faults disk.old) (K.faults disk.new) }
     ensures kept { KeepsOtherFiles F.held F.left F.given F.names F.faults file files.old files.new }
     ensures faults { DoesNotFall (K.faults disk.old) (K.faults disk.new) }
 {
-    let mut intake = Intake::behind(alloc, settings.frame, settings.shard, done);
+    let mut intake = Intake::behind(alloc, run.frame, run.shard, done);
     loop {
         fill_round(&mut intake, files, file, buffer)?;
         if let Some(ending) = intake.end() {
-            return ended(alloc, job, journal, ending);
+            return ended(alloc, run, journal, ending);
         }
-        run_next(rt, alloc, job, workers, &mut intake, gate, journal, disk)?;
+        run_next(rt, alloc, run, &mut intake, gate, journal, disk)?;
     }
 }
 
@@ -209,54 +189,50 @@ fn fill_round<F: Files>(
     fill(intake, files, file, buffer).map_err(of_file)
 }
 
-/// Runs the next round by so many workers, appends it to the journal, and moves on after it.
+/// Runs the next round, appends it to the journal, and moves on after it.
 fn run_next<R: Threads + Sync, G: Gate + Sync, K: Disk>(
     rt: &R,
     alloc: Global,
-    job: &Job,
-    workers: u32,
+    run: &ResumedJob,
     intake: &mut Intake,
     gate: &G,
     journal: &mut Journal,
     disk: &mut K,
 ) -> Result<(), Halt>
-    requires job { IsJob job.now }
-    requires attempts { (1 ≤ job.now.attempts) × (job.now.attempts ≤ 8) }
-    requires workers { (1 ≤ workers) × (workers ≤ 64) }
-    requires spelled { HaveSpelling (all_tables job.now.compiled) }
-    requires journal { HasJournal job.now journal.old (K.bytes disk.old) }
-    requires next { HasNext job.now (rounds_of journal.old) intake.old }
+    requires can_resume { CanResume run.now }
+    requires journal { HasJournal run.now.job journal.old (K.bytes disk.old) }
+    requires next { HasNext run.now.job (rounds_of journal.old) intake.old }
 
-    ensures ok { OnOk result (AddsRound job.now (rounds_of journal.old) (rounds_of journal.new) intake.old intake.new) }
-    ensures journal { OnOk result ((name : JobBytes) → IsJournalOf name job.now journal.old (K.bytes disk.old)
-        → IsJournalOf name job.now journal.new (K.bytes disk.new)) }
+    ensures ok { OnOk result (AddsRound run.now.job (rounds_of journal.old) (rounds_of journal.new) intake.old intake.new) }
+    ensures journal { OnOk result ((name : JobBytes) → IsJournalOf name run.now.job journal.old (K.bytes disk.old)
+        → IsJournalOf name run.now.job journal.new (K.bytes disk.new)) }
     ensures stands { OnOk result ((source : Source) (start left : Option (List ℕ))
-        → IsAfter job.now source.frame source.most (rounds_of journal.old) intake.old start left
-        → start ≡ Some (drop (last_progress (rounds_of journal.old)).bytes source.bytes) → AllStand job.now source (rounds_of journal.old)
-        → AllStand job.now source (rounds_of journal.new)) }
+        → IsAfter run.now.job source.frame source.most (rounds_of journal.old) intake.old start left
+        → start ≡ Some (drop (last_progress (rounds_of journal.old)).bytes source.bytes) → AllStand run.now.job source (rounds_of journal.old)
+        → AllStand run.now.job source (rounds_of journal.new)) }
     ensures keeps { OnOk result ((name : JobBytes) (held : List ℕ) → K.bytes disk.old ≡ Some held
-        → IsJournalOf name job.now journal.old (K.bytes disk.old)
-        → KeepsRounds (K.bytes disk.new) (K.may_leave disk.new) name (all_tables job.now.compiled) (rounds_of journal.new)) }
+        → IsJournalOf name run.now.job journal.old (K.bytes disk.old)
+        → KeepsRounds (K.bytes disk.new) (K.may_leave disk.new) name (all_tables run.now.job.compiled) (rounds_of journal.new)) }
 
     ensures stopped { (name : JobBytes) (source : Source) (held : List ℕ) (start left : Option (List ℕ))
-        → IsAfter job.now source.frame source.most (rounds_of journal.old) intake.old start left
+        → IsAfter run.now.job source.frame source.most (rounds_of journal.old) intake.old start left
         → start ≡ Some (drop (last_progress (rounds_of journal.old)).bytes source.bytes)
-        → Stands name job.now source held (rounds_of journal.old) → Rests (K.bytes disk.old) (K.may_leave disk.old) held
-        → are_told (K.may_leave disk.old) ≡ true → IsJournalOf name job.now journal.old (K.bytes disk.old)
-        → (added : List RoundEntry) × LeavesRounds K.time K.left_since disk.old disk.new name job.now source held (rounds_of journal.old) added
+        → Stands name run.now.job source held (rounds_of journal.old) → Rests (K.bytes disk.old) (K.may_leave disk.old) held
+        → are_told (K.may_leave disk.old) ≡ true → IsJournalOf name run.now.job journal.old (K.bytes disk.old)
+        → (added : List RoundEntry) × LeavesRounds K.time K.left_since disk.old disk.new name run.now.job source held (rounds_of journal.old) added
         × OnOk result (rounds_of journal.new ≡ rounds_of journal.old ++ added) }
     ensures entries { (name : JobBytes) (held : List ℕ) → Rests (K.bytes disk.old) (K.may_leave disk.old) held → are_told (K.may_leave disk.old) ≡ true
-        → IsJournalOf name job.now journal.old (K.bytes disk.old)
-        → LeavesOnly K.time K.left_since disk.old disk.new (SpellsMore name (all_tables job.now.compiled) (rounds_of journal.old)) }
+        → IsJournalOf name run.now.job journal.old (K.bytes disk.old)
+        → LeavesOnly K.time K.left_since disk.old disk.new (SpellsMore name (all_tables run.now.job.compiled) (rounds_of journal.old)) }
     ensures told { are_told (K.may_leave disk.new) ≡ are_told (K.may_leave disk.old) }
 
-    ensures err { IfErr result (StopsHalt (outcome_from job.now intake.old.round.passed (shards_of intake.old.round))) }
+    ensures err { IfErr result (StopsHalt (outcome_from run.now.job intake.old.round.passed (shards_of intake.old.round))) }
     ensures read { IsErrOf result (Halt.Stopped Stop.ReadFailed) → ⊥ }
     ensures disk_failed { IsErrOf result Halt.DiskFailed → Rose (K.faults disk.old) (K.faults disk.new) }
     ensures faults { DoesNotFall (K.faults disk.old) (K.faults disk.new) }
 {
-    let (tables, passed) = run_at_hand(rt, alloc, job, workers, intake, gate)?;
-    let round = round_entry(alloc, job, intake, &tables, passed)?;
+    let (tables, passed) = run_at_hand(rt, alloc, &run.job, run.workers, intake, gate)?;
+    let round = round_entry(alloc, &run.job, intake, &tables, passed)?;
     match journal.append(disk, round) {
         Ok(()) => {
             intake.move_on(passed);
@@ -267,14 +243,13 @@ fn run_next<R: Threads + Sync, G: Gate + Sync, K: Disk>(
 }
 
 /// The tables of a job whose input ends so after the rounds of its journal.
-fn ended(alloc: Global, job: &Job, journal: &Journal, ending: Ending) -> Result<Saved, Halt>
-    requires job { IsJob job.now }
-    requires spelled { HaveSpelling (all_tables job.now.compiled) }
-    requires are { (name : JobBytes) × AreRounds name (all_tables job.now.compiled) (rounds_of journal.now) }
-    ensures value { EndsSo (all_tables job.now.compiled) (rounds_of journal.now) ending result }
+fn ended(alloc: Global, run: &ResumedJob, journal: &Journal, ending: Ending) -> Result<Saved, Halt>
+    requires can_resume { CanResume run.now }
+    requires are { (name : JobBytes) × AreRounds name (all_tables run.now.job.compiled) (rounds_of journal.now) }
+    ensures value { EndsSo (all_tables run.now.job.compiled) (rounds_of journal.now) ending result }
 {
     match ending {
-        Ending::Whole => Ok(tables_of(alloc, job, journal.rounds())?),
+        Ending::Whole => Ok(tables_of(alloc, &run.job, journal.rounds())?),
         Ending::Damaged(byte) => Err(Halt::Stopped(Stop::Damaged(byte))),
         Ending::Limit(byte) => Err(Halt::Stopped(Stop::Limit(byte))),
     }

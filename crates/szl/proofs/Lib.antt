@@ -23,6 +23,7 @@ mod OpeningLemmas
 mod PieceLemmas
 mod ProtoLemmas
 mod ResumeLemmas
+mod ResumedJobLemmas
 mod ResumedMainLemmas
 mod RunningLemmas
 mod SavableLemmas

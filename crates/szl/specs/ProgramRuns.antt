@@ -12,6 +12,8 @@ use Rattle.sz_mean.specs.Programs.{statics}
 use Rattle.sz_machine.specs.Ends.{seen_fault}
 use Rattle.sz_words.specs.declared.settings.RunSettings.{RunSettings}
 use Rattle.sz_attempt.specs.declared.job.Job.{Job}
+use Rattle.sz_resume.specs.declared.resumed_job.ResumedJob.{ResumedJob}
+use Rattle.sz_resume.specs.Resumable.{CanResume}
 use Rattle.sz_attempt.specs.Shards.{IsJob}
 use Rattle.sz_workers.specs.Outcomes.{outcome_of}
 use Rattle.sz_save.specs.Saving.{HaveSpelling}
@@ -87,3 +89,19 @@ pub record IsJobFor (program : Marked) (s : RunSettings) (job : Job) (workers : 
 abbrev pub GivesJob : Marked → RunSettings → Result (Job × ℕ) Failure → Type 0
 GivesJob program s (Ok made) = IsJobFor program s made.0 made.1
 GivesJob program s (Err failure) = GivesStatics program s.budget (Err failure)
+
+-- the input of a resumed job is told apart and cut into shards as these settings ask for it
+pub record IsReadAs (s : RunSettings) (run : ResumedJob) : Type 0 where
+  pub frame : run.frame ≡ s.frame
+  pub shard : run.shard ≡ s.shard
+
+-- the resumed job is that of the program as the settings ask for it, and can be resumed
+pub record IsResumedFor (program : Marked) (s : RunSettings) (run : ResumedJob) : Type 0 where
+  pub is_for : IsJobFor program s run.job run.workers
+  pub read_as : IsReadAs s run
+  pub can_resume : CanResume run
+
+-- the job of a program that is resumed; or, as of its statics, the fault in one, or want of memory
+abbrev pub GivesResumed : Marked → RunSettings → Result ResumedJob Failure → Type 0
+GivesResumed program s (Ok run) = IsResumedFor program s run
+GivesResumed program s (Err failure) = GivesStatics program s.budget (Err failure)

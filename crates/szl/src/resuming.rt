@@ -5,8 +5,7 @@ ghost use Rattle.sz_io.specs.Opened.{KeepsFiles};
 ghost use Rattle.sz_io.specs.Calls.{ReadToEnd};
 ghost use Rattle.sz_core.specs.Sound.{IsSound};
 ghost use Rattle.sz_mean.specs.Marked.{marked, all_tables};
-ghost use Rattle.sz_save.specs.Saving.{HaveSpelling, state_of_emits};
-ghost use Rattle.sz_attempt.specs.Shards.{IsJob};
+ghost use Rattle.sz_save.specs.Saving.{state_of_emits};
 ghost use Rattle.sz_disk.specs.Crashes.{are_told};
 ghost use Rattle.sz_disk.specs.Crashing.{Rests, LeavesOnly, DoesNotFall};
 ghost use Rattle.sz_journal.specs.Journal.{rounds_of, IsOf};
@@ -17,6 +16,7 @@ ghost use Rattle.sz_types.specs.Tables.{Declaration};
 ghost use Rattle.sz_protofile_types.specs.Sound.{AreSound};
 ghost use Rattle.sz_resume.specs.Standing.{IsFound};
 ghost use Rattle.sz_resume.specs.Runs.{IsJournalOf, HasJournal};
+ghost use Rattle.sz_resume.specs.Resumable.{CanResume};
 ghost use Rattle.sz_resume.specs.Stops.{SpellsMore};
 ghost use Rattle.sz_words.specs.Bounds.{HasBounds};
 ghost use Rattle.sz_words.specs.Settings.{settings_in};
@@ -25,7 +25,7 @@ ghost use Rattle.sz_refusals.specs.Texts.{most_program_bytes};
 ghost use Rattle.szl.specs.Judgement.{Reading, IsRead};
 ghost use Rattle.szl.specs.JournalRuns.{AnswersJob, IsAfterRounds, IsProgramOutcome, IsTextOutcome, IsFileOutcome, IfBegun, but_one};
 ghost use Rattle.szl.specs.Opening.{Answers, status_of_answer};
-ghost use Rattle.szl.specs.ProgramRuns.{CanSave, vec_items_of};
+ghost use Rattle.szl.specs.ProgramRuns.{CanSave, GivesResumed, IsReadAs, vec_items_of};
 ghost use Rattle.szl.specs.Promise.{AreReadToEnd, most_before};
 ghost use Rattle.szl.specs.ProtoReads.{HaveTypeBytes};
 ghost use Rattle.szl.specs.ResumePromise.{IfJob, IfSpelled, IsJobOutcome, IsNameFor, KeepsDisk, KeepsEntries, KeepsJob, KeepsJournal, job_asked, names_by, names_on_disk};
@@ -42,7 +42,6 @@ use crate::savable::savable;
 use crate::setup::Setup;
 use std::alloc::Global;
 use std::thread::Threads;
-use sz_attempt::Job;
 use sz_core::Program;
 use sz_disk::Disk;
 use sz_io::{Files, Gate};
@@ -50,7 +49,7 @@ use sz_journal::{JobBytes, Journal, Numbers, Triple, Triples, one_standing, open
 use sz_list::Items;
 use sz_merge::saved_runs_join;
 use sz_print::text_rows;
-use sz_resume::resume_file;
+use sz_resume::{ResumedJob, resume_file};
 use sz_save::Saved;
 use sz_value::{NoMemory, Octets};
 use sz_words::{Kill, RunSettings, Settings, read_words};
@@ -234,54 +233,60 @@ fn resume_program<R: Threads + Sync, F: Files, G: Gate + Sync, K: Disk>(
     ensures faults { DoesNotFall (K.faults disk.old) (K.faults disk.new) }
 {
     one_standing();
+    let run = resumed_job(alloc, program, settings)?;
+    let mut journal = open_journal(alloc, disk, bytes, run.job.compiled.tables())?;
+    text_after(rt, alloc, &run, settings, files, gate, &mut journal, disk)
+}
+
+/// The job of a program that is resumed, as its settings ask for it.
+fn resumed_job(
+    alloc: Global,
+    program: Program,
+    settings: &RunSettings,
+) -> Result<ResumedJob, Failure>
+    requires sound { IsSound program }
+    requires can_save { CanSave true (marked program settings.now.ignore_undefs) }
+    requires bounds { HasBounds settings.now }
+    ensures value { GivesResumed (marked program settings.now.ignore_undefs) settings.now result }
+{
     let (job, workers) = job_with_workers(alloc, program, settings)?;
-    let mut journal = open_journal(alloc, disk, bytes, job.compiled.tables())?;
-    text_after(
-        rt,
-        alloc,
-        &job,
-        settings,
+    Ok(ResumedJob {
+        job,
         workers,
-        files,
-        gate,
-        &mut journal,
-        disk,
-    )
+        frame: settings.frame,
+        shard: settings.shard,
+    })
 }
 
 /// The text of the tables of a job that goes on after its journal.
 fn text_after<R: Threads + Sync, F: Files, G: Gate + Sync, K: Disk>(
     rt: &R,
     alloc: Global,
-    job: &Job,
+    run: &ResumedJob,
     settings: &RunSettings,
-    workers: u32,
     files: &mut F,
     gate: &G,
     journal: &mut Journal,
     disk: &mut K,
 ) -> Result<Vec<u8>, Failure>
     requires few { length (F.names files.old) < 128 }
-    requires job { IsJob job.now }
-    requires attempts { (1 ≤ job.now.attempts) × (job.now.attempts ≤ 8) }
-    requires workers { (1 ≤ workers) × (workers ≤ 64) }
-    requires bounds { HasBounds settings.now }
-    requires spelled { HaveSpelling (all_tables job.now.compiled) }
-    requires journal { HasJournal job.now journal.old (K.bytes disk.old) }
+    requires can_resume { CanResume run.now }
+    requires read_as { IsReadAs settings.now run.now }
+    requires journal { HasJournal run.now.job journal.old (K.bytes disk.old) }
 
     ensures value { (name : JobBytes) → IsOf name journal.old
-        → AnswersJob F.Files (λ status. IsAfterRounds settings.now job.now name (rounds_of journal.old) (F.held files.old settings.now.input)
+        → AnswersJob F.Files (λ status. IsAfterRounds settings.now run.now.job name (rounds_of journal.old) (F.held files.old settings.now.input)
         (K.bytes disk.old)) (settings.now.input ∷ []) but_one files.old files.new (vec_items_of result) }
     ensures end { OnOk result (ReadToEnd F.Files files.old files.new settings.now.input) }
     ensures names { OnOk result (F.names files.new ≡ F.names files.old ++ settings.now.input ∷ []) }
     ensures stopped { (input held : List ℕ) (name : JobBytes) → F.held files.old settings.now.input ≡ Some input
-        → Rests (K.bytes disk.old) (K.may_leave disk.old) held → IsJournalOf name job.now journal.old (K.bytes disk.old)
-        → IsFound name job.now (source_of settings.now input) held (rounds_of journal.old)
-        → KeepsJob K.Disk name job.now (source_of settings.now input) held (rounds_of journal.old) (status_of_answer (vec_items_of result)) disk.old
+        → Rests (K.bytes disk.old) (K.may_leave disk.old) held → IsJournalOf name run.now.job journal.old (K.bytes disk.old)
+        → IsFound name run.now.job (source_of settings.now input) held (rounds_of journal.old)
+        → KeepsJob K.Disk name run.now.job (source_of settings.now input) held (rounds_of journal.old) (status_of_answer (vec_items_of result)) disk.old
         disk.new }
     ensures entries { (name : JobBytes) (held : List ℕ) → Rests (K.bytes disk.old) (K.may_leave disk.old) held → are_told (K.may_leave disk.old) ≡ true
-        → IsJournalOf name job.now journal.old (K.bytes disk.old)
-        → LeavesOnly K.time K.left_since disk.old disk.new (SpellsMore name (all_tables job.now.compiled) (rounds_of journal.old)) }
+        → IsJournalOf name run.now.job journal.old (K.bytes disk.old)
+        → LeavesOnly K.time K.left_since disk.old disk.new (SpellsMore name (all_tables run.now.job.compiled) (rounds_of journal.old)) }
 
     ensures disk_failed { IsErrOf result Failure.DiskFailed → Rose (K.faults disk.old) (K.faults disk.new) }
 
@@ -289,9 +294,7 @@ fn text_after<R: Threads + Sync, F: Files, G: Gate + Sync, K: Disk>(
     ensures faults { DoesNotFall (K.faults disk.old) (K.faults disk.new) }
 {
     let file = files.open_file(settings.input.as_str())?;
-    let all = resume_file(
-        rt, alloc, job, settings, workers, files, file, gate, journal, disk,
-    )?;
+    let all = resume_file(rt, alloc, run, files, file, gate, journal, disk)?;
     Ok(text_of(alloc, &all)?)
 }
 

@@ -46,10 +46,10 @@ returns-clause-short_keeps g c gate is = absurd (c.run_after.ensures.long gate i
 
 pub returns-clause-value : goal.returns-clause-value
 returns-clause-value g c input held name told read found =
-    let s = c.args.settings.now in
+    let s = c.args.run.now in
     c.run_after.ensures.value input
     (after_dropped c.in_ok-all.ensures.value c.if-not-all.false c.done_after-done.ensures.value c.rounds.ensures.value told)
-    (found_stands c.args.job.now (record { frame = s.frame; most = s.shard; bytes = input }) name held (rounds_of c.args.journal.now) found)
+    (found_stands c.args.run.now.job (record { frame = s.frame; most = s.shard; bytes = input }) name held (rounds_of c.args.journal.now) found)
 
 pub returns-clause-short : goal.returns-clause-short
 returns-clause-short g c =

@@ -28,7 +28,7 @@ loop-intake-init g c =
       room = c.requires.room;
       rises = omega arith;
       behind =
-          way_starts rounds c.args.done c.behind-intake.result (g.F.Files.left c.args.files.now c.args.file) c.requires.shard c.requires.done
+          way_starts rounds c.args.done c.behind-intake.result (g.F.Files.left c.args.files.now c.args.file) c.requires.can_resume.some c.requires.done
           c.requires.can c.requires.passed c.behind-intake.ensures.empty;
       journal_is = λ name j. j;
       grows = ([], sym (append-nil rounds), tt);
@@ -84,17 +84,17 @@ returns-in-Some-clause-grows g c = on_any c.ended.result _ c.loop-intake.invaria
 
 pub returns-in-Some-clause-long : goal.returns-in-Some-clause-long
 returns-in-Some-clause-long g c gate is =
-    so_not (all_tables c.args.job.now.compiled) (rounds_of c.loop-intake.journal) c.in-Some.ending c.ended.result (halts.Short gate) c.ended.ensures.value is
+    so_not (all_tables c.args.run.now.job.compiled) (rounds_of c.loop-intake.journal) c.in-Some.ending c.ended.result (halts.Short gate) c.ended.ensures.value is
 
 pub returns-in-Some-clause-failed : goal.returns-in-Some-clause-failed
 returns-in-Some-clause-failed g c is =
     absurd
-    (so_not (all_tables c.args.job.now.compiled) (rounds_of c.loop-intake.journal) c.in-Some.ending c.ended.result (halts.Stopped stops.ReadFailed) c.ended.ensures.value is)
+    (so_not (all_tables c.args.run.now.job.compiled) (rounds_of c.loop-intake.journal) c.in-Some.ending c.ended.result (halts.Stopped stops.ReadFailed) c.ended.ensures.value is)
 
 pub returns-in-Some-clause-disk_failed : goal.returns-in-Some-clause-disk_failed
 returns-in-Some-clause-disk_failed g c is =
     absurd
-    (so_not (all_tables c.args.job.now.compiled) (rounds_of c.loop-intake.journal) c.in-Some.ending c.ended.result halts.DiskFailed c.ended.ensures.value is)
+    (so_not (all_tables c.args.run.now.job.compiled) (rounds_of c.loop-intake.journal) c.in-Some.ending c.ended.result halts.DiskFailed c.ended.ensures.value is)
 
 pub returns-in-Some-clause-stopped : goal.returns-in-Some-clause-stopped
 returns-in-Some-clause-stopped g c input held name told rests is_told j stands =
@@ -102,7 +102,7 @@ returns-in-Some-clause-stopped g c input held name told rests is_told j stands =
 
 pub returns-in-Some-clause-ended : goal.returns-in-Some-clause-ended
 returns-in-Some-clause-ended g c input held name told rests j stands =
-    let s = c.args.settings.now in
+    let s = c.args.run.now in
     let inv = c.loop-intake.invariant in
     let first = rounds_of c.args.journal.now in
     let rounds = rounds_of c.loop-intake.journal in
@@ -110,7 +110,7 @@ returns-in-Some-clause-ended g c input held name told rests j stands =
     let disk = c.loop-intake.disk in
     let f = c.in_ok-fill_round.ensures in
     let b = way_filled inv.behind c.fill_round.new.intake (g.F.Files.left c.fill_round.new.files c.args.file) f.ok f.first f.first_shard in
-    let all = found_stands c.args.job.now (record { frame = s.frame; most = s.shard; bytes = input }) name held first (inr stands) in
+    let all = found_stands c.args.run.now.job (record { frame = s.frame; most = s.shard; bytes = input }) name held first (inr stands) in
     on_any c.ended.result _ (way_holds b f.ready (sym c.end.ensures.value ∙ c.in-Some.is) input
     (rest_told left input (last_progress first).bytes (last_progress rounds).bytes inv.rises told) c.args.journal.now (inv.stands input told all) name held
     first stands (g.K.Disk.bytes disk) (g.K.Disk.may_leave disk) (inv.keeps name held rests j))
@@ -119,9 +119,9 @@ returns-in-Some-clause-ended g c input held name told rests j stands =
 pub returns-in_err-fill_round-clause-value : goal.returns-in_err-fill_round-clause-value
 returns-in_err-fill_round-clause-value g c input told all =
     let p = err_from_is_err_and c.from_residual.result c.from_residual.ensures.1 in
-    let s = c.args.settings.now in
+    let s = c.args.run.now in
     let e = c.in_err-fill_round.ensures.err in
-    rw (p.1, p.2, e.1) (way_unread c.args.job.now c.args.journal.now (record { frame = s.frame; most = s.shard; bytes = input }) e.0)
+    rw (p.1, p.2, e.1) (way_unread c.args.run.now.job c.args.journal.now (record { frame = s.frame; most = s.shard; bytes = input }) e.0)
 
 pub returns-in_err-fill_round-clause-long : goal.returns-in_err-fill_round-clause-long
 returns-in_err-fill_round-clause-long g c gate is =
@@ -169,8 +169,8 @@ loop-intake-smaller g c =
 -- a round more was run
 pub loop-intake-preserved : goal.loop-intake-preserved
 loop-intake-preserved g c =
-    let job = c.args.job.now in
-    let s = c.args.settings.now in
+    let job = c.args.run.now.job in
+    let s = c.args.run.now in
     let file = c.args.file in
     let inv = c.loop-intake.invariant in
     let first = rounds_of c.args.journal.now in
@@ -244,20 +244,20 @@ returns-in_err-run_next-clause-long g c gate is =
     let b = p.2 in
     let same : c.in_err-run_next.field-0.0 ≡ halts.Short gate = cc in
     let mid = c.fill_round.new.intake in
-    subst (StopsHalt (outcome_from c.args.job.now mid.round.passed (shards_of mid.round))) same c.in_err-run_next.ensures.err
+    subst (StopsHalt (outcome_from c.args.run.now.job mid.round.passed (shards_of mid.round))) same c.in_err-run_next.ensures.err
 
 pub returns-in_err-run_next-clause-entries : goal.returns-in_err-run_next-clause-entries
 returns-in_err-run_next-clause-entries g c name held rests is_told j =
     let inv = c.loop-intake.invariant in
     let k = inv.keeps name held rests j in
-    entries_both name (all_tables c.args.job.now.compiled) (rounds_of c.args.journal.now) inv.grows.0 inv.grows.1 (inv.entries name held rests is_told j)
+    entries_both name (all_tables c.args.run.now.job.compiled) (rounds_of c.args.journal.now) inv.grows.0 inv.grows.1 (inv.entries name held rests is_told j)
     (c.run_next.ensures.entries name k.held k.rests (inv.told ∙ is_told) (inv.journal_is name j))
 
 pub returns-in_err-run_next-clause-stopped : goal.returns-in_err-run_next-clause-stopped
 returns-in_err-run_next-clause-stopped g c input held name told rests is_told j stands =
     let p = err_from_is_err_and c.from_residual-in_err-run_next.result c.from_residual-in_err-run_next.ensures.1 in
-    let job = c.args.job.now in
-    let s = c.args.settings.now in
+    let job = c.args.run.now.job in
+    let s = c.args.run.now in
     let inv = c.loop-intake.invariant in
     let first = rounds_of c.args.journal.now in
     let rounds = rounds_of c.loop-intake.journal in

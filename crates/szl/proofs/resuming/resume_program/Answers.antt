@@ -4,7 +4,6 @@ use Rattle.std.specs.Prelude.{Ok}
 use Rattle.std.proofs.lemmas.Result.{err_from_is_err_and}
 use Rattle.sz_attempt.specs.declared.job.Job.{Job}
 use Rattle.sz_mean.specs.Marked.{marked, all_tables}
-use Rattle.sz_save.specs.Saving.{HaveSpelling}
 use Rattle.sz_journal.specs.Rounds.{AreRounds}
 use Rattle.sz_journal.specs.Journal.{rounds_of, KeepsRounds}
 use Rattle.sz_journal.specs.Opening.{FitsAnswer, FitsError, IsKept}
@@ -20,18 +19,18 @@ use Rattle.szl.proofs.KeepLemmas.{keeps_none, not_done, entries_untouched, entri
 use Rattle.szl.proofs.resuming.resume_program.Goals as goal
 
 -- a static faults, or there was no memory for the job
-pub returns-in_err-job-clause-value : goal.returns-in_err-job-clause-value
-returns-in_err-job-clause-value g c =
+pub returns-in_err-run-clause-value : goal.returns-in_err-run-clause-value
+returns-in_err-run-clause-value g c =
     let p = err_from_is_err_and c.from_residual.result c.from_residual.ensures.1 in
     let s = c.args.settings.now in
     rw (p.1, p.2) (no_job g.F.Files s (marked c.args.program s.ignore_undefs) c.args.bytes.now c.args.files.now (g.K.Disk.bytes c.args.disk.now)
-    c.in_err-job.field-0.0 c.in_err-job.ensures.value)
+    c.in_err-run.field-0.0 c.in_err-run.ensures.value)
 
-pub returns-in_err-job-clause-stopped : goal.returns-in_err-job-clause-stopped
-returns-in_err-job-clause-stopped g c =
+pub returns-in_err-run-clause-stopped : goal.returns-in_err-run-clause-stopped
+returns-in_err-run-clause-stopped g c =
     let p = err_from_is_err_and c.from_residual.result c.from_residual.ensures.1 in
     let s = c.args.settings.now in
-    let f = c.in_err-job.field-0.0 in
+    let f = c.in_err-run.field-0.0 in
     let disk = c.args.disk.now in
     rw (p.1, p.2) (record {
       untouched = λ none. refl;
@@ -47,7 +46,7 @@ returns-in_err-journal-clause-value g c =
     let p = err_from_is_err_and c.from_residual-in_err-journal.result c.from_residual-in_err-journal.ensures.1 in
     let s = c.args.settings.now in
     let program = marked c.args.program s.ignore_undefs in
-    let made = c.in_ok-job.ensures.value in
+    let made = c.in_ok-run.ensures.value.is_for in
     let decls = c.tables.ensures.value ∙ ap (λ (j : Job). all_tables j.compiled) made.is_job_of.same in
     let e = c.in_err-journal.field-0.0 in
     rw (p.1, p.2) (no_journal g.F.Files s program c.args.bytes.now c.args.files.now (g.K.Disk.bytes c.args.disk.now) made.slots made.means e
@@ -58,7 +57,7 @@ returns-in_err-journal-clause-stopped g c =
     let p = err_from_is_err_and c.from_residual-in_err-journal.result c.from_residual-in_err-journal.ensures.1 in
     let s = c.args.settings.now in
     let program = marked c.args.program s.ignore_undefs in
-    let made = c.in_ok-job.ensures.value in
+    let made = c.in_ok-run.ensures.value.is_for in
     let decls = c.tables.ensures.value ∙ ap (λ (j : Job). all_tables j.compiled) made.is_job_of.same in
     let f = failure_of_journal c.in_err-journal.field-0.0 in
     let disk = c.args.disk.now in
@@ -73,26 +72,19 @@ returns-in_err-journal-clause-stopped g c =
           (c.open_journal.ensures.leaves held rests is));
     })
 
--- the job can be run, and has this journal
-pub text_after-requires-clause-job : goal.text_after-requires-clause-job
-text_after-requires-clause-job g c κs within = c.in_ok-job.ensures.value.can_run
+-- the job can be resumed, and has this journal
+pub text_after-requires-clause-can_resume : goal.text_after-requires-clause-can_resume
+text_after-requires-clause-can_resume g c κs within = c.in_ok-run.ensures.value.can_resume
 
-pub text_after-requires-clause-attempts : goal.text_after-requires-clause-attempts
-text_after-requires-clause-attempts g c κs within = c.in_ok-job.ensures.value.attempts
-
-pub text_after-requires-clause-workers : goal.text_after-requires-clause-workers
-text_after-requires-clause-workers g c κs within = c.in_ok-job.ensures.value.are_workers
-
-pub text_after-requires-clause-spelled : goal.text_after-requires-clause-spelled
-text_after-requires-clause-spelled g c κs within =
-    subst HaveSpelling (sym (ap (λ (j : Job). all_tables j.compiled) c.in_ok-job.ensures.value.is_job_of.same)) (c.requires.can_save refl)
+pub text_after-requires-clause-read_as : goal.text_after-requires-clause-read_as
+text_after-requires-clause-read_as g c κs within = c.in_ok-run.ensures.value.read_as
 
 pub text_after-requires-clause-journal : goal.text_after-requires-clause-journal
 text_after-requires-clause-journal g c κs within =
     let name = c.args.bytes.now in
     let journal = c.in_ok-journal.journal in
-    let job = c.in_ok-job.job in
-    let same = c.in_ok-job.ensures.value.is_job_of.same in
+    let job = c.in_ok-run.run'.job in
+    let same = c.in_ok-run.ensures.value.is_for.is_job_of.same in
     let mid = c.open_journal.new.disk in
     record {
       name = name;
@@ -110,8 +102,8 @@ returns-clause-value g c =
     let s = c.args.settings.now in
     let program = marked c.args.program s.ignore_undefs in
     let name = c.args.bytes.now in
-    let made = c.in_ok-job.ensures.value in
-    let job = c.in_ok-job.job in
+    let made = c.in_ok-run.ensures.value.is_for in
+    let job = c.in_ok-run.run'.job in
     let journal = c.in_ok-journal.journal in
     let old = c.args.files.now in
     let new = c.text_after.new.files in
@@ -131,8 +123,8 @@ returns-clause-stopped g c =
     let s = c.args.settings.now in
     let program = marked c.args.program s.ignore_undefs in
     let name = c.args.bytes.now in
-    let made = c.in_ok-job.ensures.value in
-    let job = c.in_ok-job.job in
+    let made = c.in_ok-run.ensures.value.is_for in
+    let job = c.in_ok-run.run'.job in
     let same = made.is_job_of.same in
     let journal = c.in_ok-journal.journal in
     let disk = c.args.disk.now in
