@@ -1,6 +1,8 @@
 """What the tools share: files and crates of the repository, the built program, rows of whole runs, times, and how a tool ends."""
 import argparse
+import collections
 import hashlib
+import json
 import os
 import pathlib
 import re
@@ -164,3 +166,19 @@ def timed(work):
     returned = work()
     after, ended = resource.getrusage(resource.RUSAGE_CHILDREN), time.monotonic()
     return returned, after.ru_utime + after.ru_stime - before.ru_utime - before.ru_stime, ended - begun
+
+
+# A small process runs a command for its costs, since what the starting process has counts for the peak memory too.
+COSTS_OF = """import json, resource, subprocess, sys, time
+begun = time.monotonic()
+status = subprocess.call(sys.argv[1:], stdin=subprocess.DEVNULL, stdout=subprocess.DEVNULL)
+ended, used = time.monotonic(), resource.getrusage(resource.RUSAGE_CHILDREN)
+json.dump([status, used.ru_utime + used.ru_stime, ended - begun, used.ru_maxrss * 1024], sys.stdout)
+"""
+Costs = collections.namedtuple("Costs", "status cpu wall memory")  # seconds, and the most bytes
+
+
+def costs(*commands):
+    """Runs commands at the same time, with their output dropped. Returns the costs of each."""
+    begun = [subprocess.Popen([sys.executable, "-c", COSTS_OF, *map(str, it)], stdout=subprocess.PIPE) for it in commands]
+    return [Costs(*json.loads(it.communicate()[0])) for it in begun]
