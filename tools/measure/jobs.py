@@ -3,6 +3,7 @@ import collections
 import dataclasses
 import heapq
 import math
+import random
 import statistics
 
 WIDE = 64  # the most files that one merge joins
@@ -87,9 +88,9 @@ def held(seconds, chances, draw):
         lost += length * draw.random() + pause
 
 
-def clock(stage, cores, chances, draw, speculates):
+def clock(stage, cores, chances, seed, speculates):
     """The wall time of a stage whose tasks are drawn, each begun in order as a slot gets free. What is slow is started once more, if asked for."""
-    slots, begun, ended = [0.0] * cores, [], []
+    slots, begun, ended, draw = [0.0] * cores, [], [], random.Random(seed)
     for _ in range(stage.tasks):
         begun.append(slots[0])
         ended.append(slots[0] + held(stage.seconds, chances, draw))
