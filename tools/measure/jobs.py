@@ -53,16 +53,17 @@ def stages(job, rates):
     made = [Stage(count, seconds, rates.run_memory + rows * rates.run_row_memory, 0, count * rows * rates.row_bytes)]
     while count > 1 or len(made) == 1:
         wide, groups = min(count, WIDE), math.ceil(count / WIDE)
-        read, records = wide * rows, records * wide
-        made.append(merge_stage(groups, read, count * rows, job.rows(records), rates))
+        records *= wide
+        made.append(merge_stage(count, wide, groups, rows, job.rows(records), rates))
         count, rows = groups, job.rows(records)
     return made
 
 
-def merge_stage(groups, read, read_by_all, rows, rates):
-    """A level of the merge, each of whose merges but the last reads the same."""
-    seconds = rates.start + read * rates.merge_row + rows * rates.new_row
-    return Stage(groups, seconds, rates.merge_memory + rows * rates.merge_row_memory, read_by_all * rates.row_bytes, groups * rows * rates.row_bytes)
+def merge_stage(files, wide, groups, file_rows, rows, rates):
+    """A level of the merge, each of whose merges but the last joins as many files. A merge holds its rows and one file."""
+    seconds = rates.start + wide * file_rows * rates.merge_row + rows * rates.new_row
+    memory = rates.merge_memory + rows * rates.merge_row_memory + file_rows * rates.row_bytes
+    return Stage(groups, seconds, memory, files * file_rows * rates.row_bytes, groups * rows * rates.row_bytes)
 
 
 def passed(stage, cores):
