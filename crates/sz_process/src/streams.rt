@@ -1,4 +1,6 @@
 //! The standard streams, where the process was started without one of them.
+ghost use Rattle.std.specs.Prelude.{◌≡◌, IfErr};
+ghost use Rattle.sz_process.specs.Missing.{missing_code, missing_line};
 
 use std::fs::{self, Files};
 use std::io::{Stderr, Stdin, Stdout};
@@ -10,6 +12,28 @@ pub enum Stream {
     Input,
     Output,
     Error,
+}
+
+impl Stream {
+    /// The exit status of a program that lacks this stream and has nothing to stand in for it.
+    pub fn code(self) -> u8
+        ensures value { result ≡ missing_code self }
+    {
+        match self {
+            Stream::Input => 5,
+            Stream::Output | Stream::Error => 6,
+        }
+    }
+
+    /// The line that such a program writes to the error stream, if that is there, with its newline.
+    pub fn line(self) -> &'static [u8]
+        ensures value { result.now ≡ missing_line self }
+    {
+        match self {
+            Stream::Input => b"read failed\n",
+            Stream::Output | Stream::Error => b"write failed\n",
+        }
+    }
 }
 
 /// What stands in the place of the standard streams that aren't there. Once it is dropped, the next file that is opened may be taken for one.
@@ -50,7 +74,9 @@ fn stand_in<R: Files, S: AsFd>(
     rt: &R,
     handle: &S,
     stream: Stream,
-) -> Result<Option<R::File>, Stream> {
+) -> Result<Option<R::File>, Stream>
+    ensures missing { IfErr result (λ missing. missing ≡ stream) }
+{
     if is_there(handle) {
         return Ok(None);
     }

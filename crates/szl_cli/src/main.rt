@@ -9,13 +9,13 @@ use std::process::ExitCode;
 use std::thread::{self, Builder, Threads};
 use sz_disk::OsDisk;
 use sz_io::{NoGate, OsFiles, OsSink, write_line};
-use sz_process::{Stream, given_words, stand_ins};
+use sz_process::{given_words, stand_ins};
 use szl::{Setup, Stack, Status, szl_disk_main_on};
 
 /// Tells why no command line is run, and gives the exit status.
-fn tell(err: Stderr, line: &[u8], status: Status) -> ExitCode {
+fn tell(err: Stderr, line: &[u8], code: u8) -> ExitCode {
     write_line(&mut OsSink::new(err), line);
-    ExitCode::from(status.code())
+    ExitCode::from(code)
 }
 
 /// Runs the command line of these words over real files and streams, with this disk, on the stack that there is, and gives the exit status.
@@ -51,12 +51,11 @@ const STACK_BYTES: usize = 2 << 30;
 fn main(rt: HostRuntime) -> ExitCode {
     let _stand_ins = match stand_ins(&rt, rt.stdin(), rt.stdout(), rt.stderr()) {
         Ok(them) => them,
-        Err(Stream::Input) => return tell(rt.stderr(), b"read failed\n", Status::ReadFailed),
-        Err(_) => return tell(rt.stderr(), b"write failed\n", Status::WriteFailed),
+        Err(missing) => return tell(rt.stderr(), missing.line(), missing.code()),
     };
     let alloc: Global = rt.alloc();
     let Ok(words) = given_words(&rt) else {
-        return tell(rt.stderr(), b"out of memory\n", Status::NoMemory);
+        return tell(rt.stderr(), b"out of memory\n", Status::NoMemory.code());
     };
     let code = thread::scope(thread::scope_env(), &rt, |scope| {
         for part in [1, 2, 4, 8] {

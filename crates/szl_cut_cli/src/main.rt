@@ -5,24 +5,23 @@ use std::alloc::Global;
 use std::io::Stderr;
 use std::process::ExitCode;
 use sz_io::{OsFiles, OsSink, write_line};
-use sz_process::{Stream, given_words, stand_ins};
+use sz_process::{given_words, stand_ins};
 use szl_cut::{Failure, cut_file};
 
 /// Tells why no file is cut, and gives the exit status.
-fn tell(err: Stderr, line: &[u8], failure: Failure) -> ExitCode {
+fn tell(err: Stderr, line: &[u8], code: u8) -> ExitCode {
     write_line(&mut OsSink::new(err), line);
-    ExitCode::from(failure.code())
+    ExitCode::from(code)
 }
 
 fn main(rt: HostRuntime) -> ExitCode {
     let _stand_ins = match stand_ins(&rt, rt.stdin(), rt.stdout(), rt.stderr()) {
         Ok(them) => them,
-        Err(Stream::Input) => return tell(rt.stderr(), b"read failed\n", Failure::ReadFailed),
-        Err(_) => return tell(rt.stderr(), b"write failed\n", Failure::WriteFailed),
+        Err(missing) => return tell(rt.stderr(), missing.line(), missing.code()),
     };
     let alloc: Global = rt.alloc();
     let Ok(words) = given_words(&rt) else {
-        return tell(rt.stderr(), b"out of memory\n", Failure::NoMemory);
+        return tell(rt.stderr(), b"out of memory\n", Failure::NoMemory.code());
     };
     let mut files = OsFiles::new(&rt, alloc);
     let mut out = OsSink::new(rt.stdout());

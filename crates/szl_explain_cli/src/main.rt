@@ -7,13 +7,13 @@ use std::io::{Input, Stderr, Stdout};
 use std::process::ExitCode;
 use std::thread::{self, Builder, Threads};
 use sz_io::{OsFiles, OsSink, write_line};
-use sz_process::{Stream, given_words, stand_ins};
+use sz_process::{given_words, stand_ins};
 use szl_explain::{Status, explain_file};
 
 /// Tells why nothing is explained, and gives the exit status.
-fn tell(err: Stderr, line: &[u8], status: Status) -> u8 {
+fn tell(err: Stderr, line: &[u8], code: u8) -> u8 {
     write_line(&mut OsSink::new(err), line);
-    status.code()
+    code
 }
 
 /// Explains the program that these words name, over real files and streams, and gives the exit status.
@@ -40,16 +40,11 @@ fn main(rt: HostRuntime) -> ExitCode {
     let err = rt.stderr();
     let _stand_ins = match stand_ins(&rt, rt.stdin(), rt.stdout(), err) {
         Ok(them) => them,
-        Err(Stream::Input) => return ExitCode::from(tell(
-            err,
-            b"read failed\n",
-            Status::ReadFailed,
-        )),
-        Err(_) => return ExitCode::from(tell(err, b"write failed\n", Status::WriteFailed)),
+        Err(missing) => return ExitCode::from(tell(err, missing.line(), missing.code())),
     };
     let alloc: Global = rt.alloc();
     let Ok(words) = given_words(&rt) else {
-        return ExitCode::from(tell(err, b"out of memory\n", Status::NoMemory));
+        return ExitCode::from(tell(err, b"out of memory\n", Status::NoMemory.code()));
     };
     let code = thread::scope(thread::scope_env(), &rt, |scope| {
         for part in [1, 2, 4, 8] {
@@ -62,7 +57,7 @@ fn main(rt: HostRuntime) -> ExitCode {
                 return work.join(&rt);
             }
         }
-        tell(rt.stderr(), b"out of memory\n", Status::NoMemory)
+        tell(rt.stderr(), b"out of memory\n", Status::NoMemory.code())
     });
     ExitCode::from(code)
 }
