@@ -1,5 +1,6 @@
 -- The stretches of writes between the syncs of a disk in memory, and what a crash in each might have left.
-use Rattle.std.specs.Prelude.{◌≡◌, ◌⊎◌, ℕ, Bool, true, false, List, [], ◌∷◌, ◌++◌, length, map, drop}
+use Rattle.std.specs.Prelude.{◌≡◌, ◌⊎◌, ℕ, Bool, true, false, List, [], ◌∷◌, ◌++◌, length, map, drop, Some}
+use Rattle.std.proofs.Common.{subst}
 use mathlib.Core.Logic.{inl, inr}
 use Rattle.sz_disk.specs.declared.span.Span.{Span}
 use Rattle.sz_disk.specs.declared.record.Stretch.{Stretch}
@@ -70,6 +71,12 @@ pub record Syncs (old new : Record) (bytes : List ℕ) : Type 0 where
   pub none_since : at_hand new bytes ≡ no_writes bytes
   pub ends : ((ended_by new ≡ ended_by old) × (at_hand old bytes ≡ no_writes bytes))
       ⊎ (ended_by new ≡ ended_by old ++ at_hand old bytes ∷ [])
+
+-- what a read gives may be left
+pub still_left : {bytes held : List ℕ} (writes : Writes) → Some bytes ≡ Some held → LeftBy writes bytes → LeftBy writes held
+still_left {bytes} {held} writes is left =
+    let same : bytes ≡ held = cc in
+    subst (LeftBy writes) same left
 
 none_left : (ended : List Writes) (image : List ℕ) → MightHaveLeft (drop (length ended) ended) image → ⊥
 none_left [] image none = none

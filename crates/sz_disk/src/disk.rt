@@ -1,5 +1,5 @@
 //! A disk: bytes that are read and written at places, and that a crash may tear until they are synced.
-ghost use Rattle.std.specs.Prelude.{◌≡◌, ◌+◌, ◌≤◌, ◌^◌, ℕ, List, length, take, drop, Option, IfOk, OnOk, OnErr, IfSome, IsErrOf};
+ghost use Rattle.std.specs.Prelude.{◌≡◌, ◌+◌, ◌≤◌, ◌^◌, ℕ, List, length, take, drop, Option, Some, IfOk, OnOk, OnErr, IfSome, IsErrOf};
 ghost use Rattle.sz_io.specs.Rose.{Rose};
 ghost use Rattle.sz_disk.specs.Crashes.{Images, MayBe, IsTheImage};
 ghost use Rattle.sz_disk.specs.Calls.{overwrites, IsTorn, MayTear, NoMore, GoesOn, AreAmong};
@@ -73,6 +73,9 @@ pub trait Disk {
 
     /// This moment is one of those since an earlier time.
     ghost counts_now: { (disk : Self) (t : ℕ) (image : List ℕ) → t ≤ time disk → MayBe (may_leave disk) image → MayBe (left_since disk t) image };
+
+    /// A crash may leave what a read gives.
+    ghost read_may_stay: { (disk : Self) (held : List ℕ) → bytes disk ≡ Some held → MayBe (may_leave disk) held };
 
     /// Since this moment there is no other.
     ghost only_now: { (disk : Self) → AreAmong (left_since disk (time disk)) (may_leave disk) };

@@ -6,7 +6,7 @@ ghost use Rattle.std.proofs.Common.{inl};
 ghost use Rattle.sz_io.specs.Rose.{Rose, faults_after};
 ghost use Rattle.sz_disk.specs.Crashes.{Torn, told, IsTheImage};
 ghost use Rattle.sz_disk.specs.Calls.{overwritten, overwrites, IsTorn, MayTear, NoMore};
-ghost use Rattle.sz_disk.specs.Stretches.{LeftBy, at_hand, and_also, only_this_moment};
+ghost use Rattle.sz_disk.specs.Stretches.{LeftBy, at_hand, and_also, still_left, only_this_moment};
 
 use crate::record::Record;
 use crate::{Disk, Span};
@@ -192,6 +192,8 @@ impl Disk for MemDisk {
     ghost faults = { disk_faults };
 
     ghost counts_now = { λ disk t image le now. inl now };
+
+    ghost read_may_stay = { λ disk held is. still_left (writes_since disk) is disk.read_may_stay };
 
     ghost only_now = { λ disk image left. only_this_moment (ended_stretches disk) (writes_since disk) image left };
 

@@ -33,6 +33,8 @@ impl Disk for NoDisk {
 
     ghost counts_now = { λ disk t image le now. tt };
 
+    ghost read_may_stay = { λ disk held is. tt };
+
     ghost only_now = { λ disk. tt };
 
     fn length(&mut self) -> Result<u64, Failed> {
