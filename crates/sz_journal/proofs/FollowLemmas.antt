@@ -1,11 +1,13 @@
 -- Rounds that follow each other, and one more.
 use Rattle.std.proofs.Common.{◌≡◌, ◌∙◌, ℕ, zero, suc, ◌+◌, ◌-◌, ◌*◌, ◌^◌, ◌<◌, ◌≤◌, Some, List, [], ◌∷◌, ◌++◌, length, slice_get, refl, sym, ap, arith}
 use Rattle.std.specs.List.{AllByRecursion}
+use Rattle.std.proofs.lemmas.List.{map-append}
 use Rattle.std.proofs.lemmas.List.Sums.{sum_by-cons, sum_by-append, sum_by_push}
 use Rattle.sz_types.specs.Tables.{Declaration}
 use Rattle.sz_flat.specs.Spelling.{IsShort}
 use Rattle.sz_save_format.proofs.FrontLemmas.{some_is}
 use Rattle.sz_journal.specs.Rounds.{IsSpelledRound, no_progress, progress_of, progress_after, last_progress, MayFollow, Follow, all_bounds, AreRounds}
+use Rattle.sz_journal.specs.Logged.{logged}
 use Rattle.sz_journal.specs.declared.job.JobBytes.{JobBytes}
 use Rattle.sz_journal.specs.declared.progress.Progress.{Progress}
 use Rattle.sz_journal.specs.declared.round.RoundEntry.{RoundEntry}
@@ -115,3 +117,18 @@ last_told rounds last some is = end_told no_progress rounds last some is
 pub none_done : (rounds : List RoundEntry) → length rounds ≡ 0 → last_progress rounds ≡ no_progress
 none_done [] none = refl
 none_done (round ∷ rounds) none = absurd (omega (arith, none))
+
+-- one more round, and where a job has come behind it
+come_after : (before : Progress) (rounds : List RoundEntry) (round : RoundEntry) → progress_after before (rounds ++ round ∷ []) ≡ progress_of round
+come_after before [] round = refl
+come_after before (first ∷ rounds) round = come_after (progress_of first) rounds round
+
+pub behind_one_more : {A : Type 0} (items : List (RoundEntry × A)) (round : RoundEntry) (of : A)
+    → last_progress (logged (items ++ (round, of) ∷ [])) ≡ progress_of round
+behind_one_more items round of =
+    ap last_progress (map-append (λ (pair : RoundEntry × _). pair.0) items ((round, of) ∷ [])) ∙ come_after no_progress (logged items) round
+
+-- what stands behind some rounds
+pub at_end : (rounds : List RoundEntry) (round found : RoundEntry) → slice_get (rounds ++ round ∷ []) (length rounds) ≡ Some found → found ≡ round
+at_end [] round found is = sym (some_is round found is)
+at_end (first ∷ rounds) round found is = at_end rounds round found is

@@ -80,7 +80,7 @@ keeps_none job decls entry bytes may_leave is keeps = record {
 }
 
 -- where there was no entry
-pub kept_empty : (job : JobBytes) (decls : List Declaration) (entry held image : List ℕ)
-    → entry ≡ job_bytes job → IsEmpty held → IsEmptyOrHolds entry image → IsKept job decls held image
-kept_empty job decls entry held image is none (inl empty) = inr (none, inl empty)
-kept_empty job decls entry held image is none (inr holds) = inr (none, inr (spells_none job decls entry image is holds))
+pub kept_empty : (job : JobBytes) (decls : List Declaration) (entry held : List ℕ) (before : Images) (image : List ℕ)
+    → entry ≡ job_bytes job → IsEmpty held → IsEmptyOrHolds entry image → IsKept job decls before held image
+kept_empty job decls entry held before image is none (inl empty) = inr (none, inl empty)
+kept_empty job decls entry held before image is none (inr holds) = inr (none, inr (spells_none job decls entry image is holds))

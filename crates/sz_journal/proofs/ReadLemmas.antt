@@ -6,7 +6,7 @@ use Rattle.sz_journal.specs.Rounds.{AreRounds}
 use Rattle.sz_journal.specs.declared.job.JobBytes.{JobBytes}
 use Rattle.sz_journal.specs.declared.round.RoundEntry.{RoundEntry}
 use Rattle.sz_journal.specs.declared.error.OpenError.{OpenError}
-use Rattle.sz_journal.specs.declared.journal.Journal.{Journal}
+use Rattle.sz_journal.specs.declared.tail.Tail.{Tail}
 use Rattle.sz_journal.specs.Journal.{rounds_of, end_gate}
 use Rattle.sz_journal.specs.Reading.{IsReadTo, IsAt, HasAll, FitsTurn, FitsRead}
 use Rattle.sz_journal.proofs.FirstLemmas.{end_first}
@@ -15,7 +15,7 @@ use Rattle.sz_journal.proofs.SpellLemmas.{is_of_none}
 
 module _ (job : JobBytes) (decls : List Declaration) (bytes : Option (List ℕ)) (count : ℕ) where
   -- behind the entry of the job
-  pub at_first : (journal : Journal) (size : ℕ) → rounds_of journal ≡ [] → end_gate journal ≡ 9 + size
+  pub at_first : (journal : Tail) (size : ℕ) → rounds_of journal ≡ [] → end_gate journal ≡ 9 + size
       → size ≡ length (job_bytes job) → 9 + size < count
       → ((held : List ℕ) → bytes ≡ Some held → IsReadTo job [] held) → IsAt job decls journal bytes count
   at_first journal size none end size_is low read = record {
@@ -26,7 +26,7 @@ module _ (job : JobBytes) (decls : List Declaration) (bytes : Option (List ℕ))
   }
 
   -- the disk tells the same bytes
-  pub at_still : (journal : Journal) (told_later : Option (List ℕ)) → told_later ≡ bytes
+  pub at_still : (journal : Tail) (told_later : Option (List ℕ)) → told_later ≡ bytes
       → IsAt job decls journal bytes count → IsAt job decls journal told_later count
   at_still journal told_later same at = record {
     is_of = at.is_of;
@@ -35,7 +35,7 @@ module _ (job : JobBytes) (decls : List Declaration) (bytes : Option (List ℕ))
     read = λ held told. at.read held (sym same ∙ told);
   }
 
-  module _ (old new : Journal) where
+  module _ (old new : Tail) where
     -- a further round was read
     pub turn_goes : (more : Bool) → FitsTurn job decls bytes count old new (Ok more) → more ≡ true
         → IsAt job decls new bytes count × (end_gate old < end_gate new)
@@ -49,9 +49,9 @@ module _ (job : JobBytes) (decls : List Declaration) (bytes : Option (List ℕ))
     turn_ends false fits is = fits
 
     -- the journal isn't one of the job
-    pub turn_fails : (result : Result Journal OpenError) (error given : OpenError)
+    pub turn_fails : (result : Result Tail OpenError) (error given : OpenError)
         → FitsTurn job decls bytes count old new (Err error)
         → result ≡ Err given → given ≡ error → (held : List ℕ) → bytes ≡ Some held → FitsRead job decls held result
     turn_fails result error given fits is same held told =
-        subst (λ (r : Result Journal OpenError). FitsRead job decls held r)
+        subst (λ (r : Result Tail OpenError). FitsRead job decls held r)
         (sym (is ∙ ap (λ (e : OpenError). Err e) same)) (fits held told)

@@ -12,7 +12,7 @@ use Rattle.sz_journal.specs.Rounds.{round_bytes, AreRounds}
 use Rattle.sz_journal.specs.declared.job.JobBytes.{JobBytes}
 use Rattle.sz_journal.specs.declared.round.RoundEntry.{RoundEntry}
 use Rattle.sz_journal.specs.Journals.{entries_of, Spells}
-use Rattle.sz_journal.specs.declared.journal.Journal.{Journal}
+use Rattle.sz_journal.specs.declared.tail.Tail.{Tail}
 use Rattle.sz_journal.specs.Journal.{rounds_of, end_gate, last_gate, IsOf, KeepsRounds, SpellsOneOf}
 
 pub entries_more : (job : JobBytes) (rounds : List RoundEntry) (round : RoundEntry)
@@ -58,7 +58,7 @@ module _ (job : JobBytes) (rounds : List RoundEntry) (round : RoundEntry) (entry
         (SpellsOneOf job decls rounds round) (λ image left. spells_one image before left) leaves
 
 -- a journal of the job that gained a round
-module _ (job : JobBytes) (old new : Journal) (round : RoundEntry) (entry : List ℕ)
+module _ (job : JobBytes) (old new : Tail) (round : RoundEntry) (entry : List ℕ)
     (entry_is : entry ≡ round_bytes round) where
   pub is_of_more : IsOf job old → rounds_of new ≡ rounds_of old ++ round ∷ [] → last_gate new ≡ end_gate old
       → end_gate new ≡ end_gate old + length (opened entry) → IsOf job new
@@ -72,7 +72,7 @@ module _ (job : JobBytes) (old new : Journal) (round : RoundEntry) (entry : List
   }
 
 -- a journal of the job without a round
-pub is_of_none : (job : JobBytes) (journal : Journal) → rounds_of journal ≡ []
+pub is_of_none : (job : JobBytes) (journal : Tail) → rounds_of journal ≡ []
     → end_gate journal ≡ end_of (entries_of job []) → IsOf job journal
 is_of_none job journal none end = record {
   end = end ∙ ap (λ (rs : List RoundEntry). end_of (entries_of job rs)) (sym none);

@@ -13,7 +13,7 @@ use Rattle.sz_journal.specs.declared.round.RoundEntry.{RoundEntry}
 use Rattle.sz_journal.specs.Journals.{entries_of, Stands, DamagedAt}
 use Rattle.sz_journal.specs.declared.error.OpenError.{OpenError}
 use Rattle.sz_journal.specs.declared.error.OpenError.TheVariants as errors
-use Rattle.sz_journal.specs.declared.journal.Journal.{Journal}
+use Rattle.sz_journal.specs.declared.tail.Tail.{Tail}
 use Rattle.sz_journal.specs.Journal.{rounds_of, end_gate}
 use Rattle.sz_journal.specs.Opening.{FitsError}
 use Rattle.sz_journal.specs.Reading.{IsReadTo, HasTaken, FitsTaken, IsAt, HasAll, FitsTurn}
@@ -21,7 +21,7 @@ use Rattle.sz_journal.proofs.SpellLemmas.{is_of_more}
 use Rattle.sz_journal.proofs.FirstLemmas.{told_at, stands_at}
 use Rattle.sz_journal.proofs.RoundLemmas.{ending_broken, cut_broken, closed_spelled, broken_damaged, other_damaged, read_more}
 
-module _ {job : JobBytes} {decls : List Declaration} {bytes : Option (List ℕ)} {count : ℕ} {journal : Journal}
+module _ {job : JobBytes} {decls : List Declaration} {bytes : Option (List ℕ)} {count : ℕ} {journal : Tail}
     (at : IsAt job decls journal bytes count)
     {gate : ℕ} (gate_is : gate ≡ end_gate journal) where
   abbrev rounds : List RoundEntry
@@ -70,7 +70,7 @@ module _ {job : JobBytes} {decls : List Declaration} {bytes : Option (List ℕ)}
 
   module _ {found : AtGate} {behind : Vec ℕ Global} {entry : List ℕ}
       (stands : IfSome bytes (λ held. StandsAt (drop gate held) found))
-      (found_is : found ≡ Entry behind) (entry_is : entry ≡ behind.items) (new : Journal) where
+      (found_is : found ≡ Entry behind) (entry_is : entry ≡ behind.items) (new : Tail) where
     has : (held : List ℕ) → bytes ≡ Some held → HasEntry entry (drop (end_of (entries_of job rounds)) held)
     has held told =
         subst (λ (e : List ℕ). HasEntry e (drop (end_of (entries_of job rounds)) held)) (sym entry_is)

@@ -12,7 +12,7 @@ use Rattle.sz_journal.specs.Journal.{rounds_of, end_gate, last_gate, IsOf}
 use Rattle.sz_journal.specs.Opening.{FitsError}
 use Rattle.sz_journal.specs.declared.error.OpenError.{OpenError}
 use Rattle.sz_journal.specs.declared.error.OpenError.TheVariants as errors
-use Rattle.sz_journal.specs.declared.journal.Journal.{Journal}
+use Rattle.sz_journal.specs.declared.tail.Tail.{Tail}
 
 -- the bytes begin with the entries of the job and of these rounds
 pub record IsReadTo (job : JobBytes) (rounds : List RoundEntry) (held : List ℕ) : Type 0 where
@@ -34,7 +34,7 @@ FitsFirst job decls held (Ok false) = IsEmpty held
 FitsFirst job decls held (Err error) = FitsError job decls held error
 
 -- the journal has a round more, whose entry this is; or the entry isn't one of a round that may be the next one
-pub record HasTaken (job : JobBytes) (decls : List Declaration) (old new : Journal) (entry : List ℕ) : Type 0 where
+pub record HasTaken (job : JobBytes) (decls : List Declaration) (old new : Tail) (entry : List ℕ) : Type 0 where
   pub round : RoundEntry
   pub is : entry ≡ round_bytes round
   pub are : AreRounds job decls (rounds_of old ++ round ∷ [])
@@ -42,7 +42,7 @@ pub record HasTaken (job : JobBytes) (decls : List Declaration) (old new : Journ
   pub last : last_gate new ≡ end_gate old
   pub end : end_gate new ≡ end_gate old + length (opened entry)
 
-abbrev pub FitsTaken : JobBytes → List Declaration → Journal → Journal → List ℕ → Result ⊤ OpenError → Type 0
+abbrev pub FitsTaken : JobBytes → List Declaration → Tail → Tail → List ℕ → Result ⊤ OpenError → Type 0
 FitsTaken job decls old new entry (Ok _) = HasTaken job decls old new entry
 FitsTaken job decls old new entry (Err errors.OtherJob) = ⊥
 FitsTaken job decls old new entry (Err (errors.Damaged place)) =
@@ -51,7 +51,7 @@ FitsTaken job decls old new entry (Err errors.Failed) = ⊥
 FitsTaken job decls old new entry (Err errors.NoMemory) = ⊤
 
 -- the journal has the rounds that were read so far of a disk of so many bytes, and its end is a gate there
-pub record IsAt (job : JobBytes) (decls : List Declaration) (journal : Journal) (bytes : Option (List ℕ))
+pub record IsAt (job : JobBytes) (decls : List Declaration) (journal : Tail) (bytes : Option (List ℕ))
     (count : ℕ) : Type 0 where
   pub is_of : IsOf job journal
   pub are : AreRounds job decls (rounds_of journal)
@@ -59,14 +59,14 @@ pub record IsAt (job : JobBytes) (decls : List Declaration) (journal : Journal) 
   pub read : (held : List ℕ) → bytes ≡ Some held → IsReadTo job (rounds_of journal) held
 
 -- the journal has all rounds of the job, and the bytes spell them where they are told
-pub record HasAll (job : JobBytes) (decls : List Declaration) (journal : Journal)
+pub record HasAll (job : JobBytes) (decls : List Declaration) (journal : Tail)
     (bytes : Option (List ℕ)) : Type 0 where
   pub is_of : IsOf job journal
   pub are : AreRounds job decls (rounds_of journal)
   pub spelled : (held : List ℕ) → bytes ≡ Some held → Stands job decls held (Spelled (rounds_of journal))
 
 -- a further round was read; or there is none, and the journal has all; or an error is what the bytes are for the job
-abbrev pub FitsTurn : JobBytes → List Declaration → Option (List ℕ) → ℕ → Journal → Journal
+abbrev pub FitsTurn : JobBytes → List Declaration → Option (List ℕ) → ℕ → Tail → Tail
     → Result Bool OpenError → Type 0
 FitsTurn job decls bytes count old new (Ok true) = IsAt job decls new bytes count × (end_gate old < end_gate new)
 FitsTurn job decls bytes count old new (Ok false) = HasAll job decls new bytes
@@ -74,6 +74,6 @@ FitsTurn job decls bytes count old new (Err error) = (held : List ℕ) → bytes
     → FitsError job decls held error
 
 -- these rounds are spelled; or an error is what the bytes are for the job
-abbrev pub FitsRead : JobBytes → List Declaration → List ℕ → Result Journal OpenError → Type 0
+abbrev pub FitsRead : JobBytes → List Declaration → List ℕ → Result Tail OpenError → Type 0
 FitsRead job decls held (Ok journal) = Stands job decls held (Spelled (rounds_of journal))
 FitsRead job decls held (Err error) = FitsError job decls held error

@@ -1,6 +1,8 @@
 //! Which rounds may follow each other.
-ghost use Rattle.std.specs.Prelude.{◌≡◌, ◌↔◌, ◌++◌, ◌∷◌, [], ◌*◌, ◌^◌, ◌≤◌, IsTrue};
+ghost use Rattle.std.specs.Prelude.{◌≡◌, ◌↔◌, ◌++◌, ◌∷◌, [], ◌*◌, ◌^◌, ◌≤◌, List, IsTrue};
+ghost use Rattle.sz_journal.specs.Rounds as format;
 ghost use Rattle.sz_journal.specs.Rounds.{GoesOn, MayFollow, AreRounds};
+ghost use Rattle.sz_journal.specs.declared.round.RoundEntry as entries;
 
 use crate::job::JobBytes;
 use crate::progress::{Progress, last_progress};
@@ -18,7 +20,6 @@ const MOST_BYTES: u64 = 1 << 40;
 const MOST_BOUND: u64 = 1 << 63;
 
 /// Whether the round may be the next one of the job, whose program declares these tables, behind these rounds.
-#[tactic(auto, using(crate::proofs::FollowLemmas::next_tells))]
 pub fn may_be_next(
     job: &JobBytes,
     decls: &TableDecls,
@@ -28,7 +29,20 @@ pub fn may_be_next(
     requires { AreRounds job.now decls.now rounds.now }
     ensures value { IsTrue result ↔ AreRounds job.now decls.now (rounds.now ++ round.now ∷ []) }
 {
-    may_follow(job, decls, last_progress(rounds), round) && is_bound(round.records, job.budget)
+    can_follow(job, decls, last_progress(rounds), round)
+}
+
+/// The same behind rounds that have come so far.
+pub(crate) fn can_follow(
+    job: &JobBytes,
+    decls: &TableDecls,
+    before: Progress,
+    round: &RoundEntry,
+) -> bool
+    ensures value { (rounds : List entries.RoundEntry) → AreRounds job.now decls.now rounds → before ≡ format.last_progress rounds
+        → (IsTrue result ↔ AreRounds job.now decls.now (rounds ++ round.now ∷ [])) }
+{
+    may_follow(job, decls, before, round) && is_bound(round.records, job.budget)
 }
 
 // Whether the round may follow where the job has come so far.

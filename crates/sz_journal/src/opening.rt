@@ -7,12 +7,12 @@ ghost use Rattle.sz_disk.specs.Crashing.{Rests, LeavesOnly, DoesNotFall};
 ghost use Rattle.sz_disk.specs.GateCalls.{Keeps};
 ghost use Rattle.sz_journal.specs.Rounds.{AreRounds};
 ghost use Rattle.sz_journal.specs.Journal.{rounds_of, end_gate, IsOf, KeepsRounds};
+ghost use Rattle.sz_journal.specs.Kept.{tail_of, tail_in};
 ghost use Rattle.sz_journal.specs.Opening.{FitsAnswer, IsKept};
 
 use crate::error::OpenError;
-use crate::journal::Journal;
 use crate::reading::{has_job, read_rounds};
-use crate::{JobBytes, write_job};
+use crate::{JobBytes, Journal, Keeper, RoundEntries, Tail, write_job};
 use std::alloc::Global;
 use sz_disk::{Disk, begin, settle};
 use sz_types::TableDecls;
@@ -24,14 +24,47 @@ pub fn open_journal<K: Disk>(
     job: &JobBytes,
     decls: &TableDecls,
 ) -> Result<Journal, OpenError>
+    ensures causes { (held : List ℕ) → K.bytes disk.old ≡ Some held → FitsAnswer job.now decls.now held (tail_in result) }
+    ensures ok { (held : List ℕ) → K.bytes disk.old ≡ Some held
+        → IfOk result (λ journal. KeepsRounds (K.bytes disk.new) (K.may_leave disk.new) job.now decls.now (rounds_of (tail_of journal))) }
+    ensures is_of { IfOk result (λ journal. IsOf job.now (tail_of journal)) }
+    ensures are { IfOk result (λ journal. AreRounds job.now decls.now (rounds_of (tail_of journal))) }
+
+    ensures leaves { (held : List ℕ) → K.bytes disk.old ≡ Some held → are_told (K.may_leave disk.old) ≡ true
+        → LeavesOnly K.time K.left_since disk.old disk.new (IsKept job.now decls.now (K.may_leave disk.old) held) }
+    ensures told { are_told (K.may_leave disk.new) ≡ are_told (K.may_leave disk.old) }
+    ensures untold { K.bytes disk.old ≡ None → K.bytes disk.new ≡ None }
+
+    ensures failed { IsErrOf result OpenError.Failed → Rose (K.faults disk.old) (K.faults disk.new) }
+
+    ensures faults { DoesNotFall (K.faults disk.old) (K.faults disk.new) }
+{
+    let mut rounds = RoundEntries::new(alloc);
+    match open_rounds(alloc, disk, job, decls, &mut rounds) {
+        Ok(tail) => Ok(Journal::new(rounds, tail)),
+        Err(error) => Err(error),
+    }
+}
+
+/// The same where `keeper` gets the rounds, one after the other as they are read, and this gives where the journal ends.
+pub fn open_rounds<K: Disk, S: Keeper>(
+    alloc: Global,
+    disk: &mut K,
+    job: &JobBytes,
+    decls: &TableDecls,
+    keeper: &mut S,
+) -> Result<Tail, OpenError>
+    requires keeper { S.keeps keeper.old decls.now [] }
+
     ensures causes { (held : List ℕ) → K.bytes disk.old ≡ Some held → FitsAnswer job.now decls.now held result }
     ensures ok { (held : List ℕ) → K.bytes disk.old ≡ Some held
-        → IfOk result (λ journal. KeepsRounds (K.bytes disk.new) (K.may_leave disk.new) job.now decls.now (rounds_of journal)) }
+        → IfOk result (λ tail. KeepsRounds (K.bytes disk.new) (K.may_leave disk.new) job.now decls.now (rounds_of tail)) }
     ensures is_of { IfOk result (IsOf job.now) }
-    ensures are { IfOk result (λ journal. AreRounds job.now decls.now (rounds_of journal)) }
+    ensures are { IfOk result (λ tail. AreRounds job.now decls.now (rounds_of tail)) }
+    ensures keeper { IfOk result (λ tail. S.keeps keeper.new decls.now (rounds_of tail)) }
 
-    ensures leaves { (held : List ℕ) → Rests (K.bytes disk.old) (K.may_leave disk.old) held → are_told (K.may_leave disk.old) ≡ true
-        → LeavesOnly K.time K.left_since disk.old disk.new (IsKept job.now decls.now held) }
+    ensures leaves { (held : List ℕ) → K.bytes disk.old ≡ Some held → are_told (K.may_leave disk.old) ≡ true
+        → LeavesOnly K.time K.left_since disk.old disk.new (IsKept job.now decls.now (K.may_leave disk.old) held) }
     ensures told { are_told (K.may_leave disk.new) ≡ are_told (K.may_leave disk.old) }
     ensures untold { K.bytes disk.old ≡ None → K.bytes disk.new ≡ None }
 
@@ -44,7 +77,7 @@ pub fn open_journal<K: Disk>(
     if !has_job(alloc, disk, count, &entry)? {
         return start(alloc, disk, count, &entry);
     }
-    read_rounds(alloc, disk, count, job, decls, entry.len() as u64)
+    read_rounds(alloc, disk, count, job, decls, entry.len() as u64, keeper)
 }
 
 // Begins the journal of the job with this entry, on a disk that holds none.
@@ -53,11 +86,11 @@ fn start<K: Disk>(
     disk: &mut K,
     count: u64,
     entry: &[u8],
-) -> Result<Journal, OpenError>
+) -> Result<Tail, OpenError>
     requires { IfSome (K.bytes disk.old) (λ held. count ≡ length held) }
 
-    ensures rounds { IfOk result (λ journal. rounds_of journal ≡ []) }
-    ensures end { IfOk result (λ journal. end_gate journal ≡ length (opened entry.now)) }
+    ensures rounds { IfOk result (λ tail. rounds_of tail ≡ []) }
+    ensures end { IfOk result (λ tail. end_gate tail ≡ length (opened entry.now)) }
     ensures ok { (held : List ℕ) → Rests (K.bytes disk.old) (K.may_leave disk.old) held → IsEmpty held
         → OnOk result (Keeps (K.bytes disk.new) (K.may_leave disk.new) (entry.now ∷ [])) }
 
@@ -73,5 +106,5 @@ fn start<K: Disk>(
     ensures faults { DoesNotFall (K.faults disk.old) (K.faults disk.new) }
 {
     let end = begin(alloc, disk, count, entry)?;
-    Ok(Journal::new(alloc, end))
+    Ok(Tail::new(alloc, end))
 }

@@ -2,7 +2,7 @@
 ghost use Rattle.std.specs.Prelude.{◌≡◌};
 ghost use Rattle.sz_journal.specs.Rounds as progress;
 
-use crate::round::RoundEntries;
+use crate::round::{RoundEntries, RoundEntry};
 
 /// How far a job has come: how much of its input is done, and how many records were passed over.
 #[derive(Clone, Copy, Debug, PartialEq, Eq)]
@@ -17,25 +17,41 @@ pub struct Progress {
     pub passed: u32,
 }
 
+impl Progress {
+    ghost use Rattle.sz_journal.specs.Rounds.{no_progress, progress_of};
+
+    /// Nothing is done.
+    pub(crate) fn none() -> Progress
+        ensures value { result ≡ no_progress }
+    {
+        Progress {
+            shards: 0,
+            records: 0,
+            bytes: 0,
+            passed: 0,
+        }
+    }
+
+    /// What is done after a round.
+    pub(crate) fn after(round: &RoundEntry) -> Progress
+        ensures value { result ≡ progress_of round.now }
+    {
+        Progress {
+            shards: round.next_shard,
+            records: round.records,
+            bytes: round.next_byte,
+            passed: round.passed,
+        }
+    }
+}
+
 /// How far a job has come behind these rounds.
 #[tactic(auto, using(crate::proofs::FollowLemmas::last_told, crate::proofs::FollowLemmas::none_done))]
 pub fn last_progress(rounds: &RoundEntries) -> Progress
     ensures value { result ≡ progress.last_progress rounds.now }
 {
-    let count = rounds.len();
-    if count == 0 {
-        return Progress {
-            shards: 0,
-            records: 0,
-            bytes: 0,
-            passed: 0,
-        };
-    }
-    let last = rounds.get(count - 1);
-    Progress {
-        shards: last.next_shard,
-        records: last.records,
-        bytes: last.next_byte,
-        passed: last.passed,
+    match rounds.as_slice().last() {
+        Some(last) => Progress::after(last),
+        None => Progress::none(),
     }
 }

@@ -1,5 +1,5 @@
 //! What a journal holds before it is opened.
-ghost use Rattle.std.specs.Prelude.{◌≡◌, ◌↔◌, ◌+◌, ◌<◌, ◌-◌, ◌^◌, ℕ, List, [], length, IfOk, IfSome, IsErrOf, IsTrue, Some, true};
+ghost use Rattle.std.specs.Prelude.{◌≡◌, ◌↔◌, ◌+◌, ◌<◌, ◌-◌, ◌^◌, ℕ, List, [], length, IfOk, OnOk, IfSome, IsErrOf, IsTrue, Some, true};
 ghost use Rattle.sz_types.specs.Tables.{Declaration};
 ghost use Rattle.sz_io.specs.Rose.{Rose};
 ghost use Rattle.sz_disk.specs.Entries.{opened};
@@ -11,8 +11,9 @@ ghost use Rattle.sz_journal.specs.Journal.{rounds_of, end_gate, IsOf};
 ghost use Rattle.sz_journal.specs.Reading.{FitsRefused, FitsFirst, FitsTaken, IsAt, FitsTurn, FitsRead, IsReadTo};
 
 use crate::error::OpenError;
-use crate::journal::{FRONT_BYTES, Journal};
-use crate::{EntryError, JobBytes, may_be_next, read_job, read_round};
+use crate::following::can_follow;
+use crate::tail::FRONT_BYTES;
+use crate::{EntryError, JobBytes, Keeper, Tail, read_job, read_round};
 use std::alloc::Global;
 use sz_disk::{AtGate, Disk, read_gate};
 use sz_types::TableDecls;
@@ -73,86 +74,96 @@ fn refused(alloc: Global, own: &[u8], first: &[u8]) -> OpenError
 }
 
 // Reads the rounds behind the entry of the job, which has `size` bytes, from a disk of `count` bytes.
-pub(crate) fn read_rounds<K: Disk>(
+pub(crate) fn read_rounds<K: Disk, S: Keeper>(
     alloc: Global,
     disk: &mut K,
     count: u64,
     job: &JobBytes,
     decls: &TableDecls,
     size: u64,
-) -> Result<Journal, OpenError>
+    keeper: &mut S,
+) -> Result<Tail, OpenError>
     requires all { IfSome (K.bytes disk.old) (λ held. count ≡ length held) }
     requires first { (held : List ℕ) → K.bytes disk.old ≡ Some held → IsReadTo job.now [] held }
     requires of_job { size ≡ length (job_bytes job.now) }
     requires here { 9 + size < count }
+    requires keeper { S.keeps keeper.old decls.now [] }
 
     ensures value { (held : List ℕ) → K.bytes disk.old ≡ Some held → FitsRead job.now decls.now held result }
     ensures is_of { IfOk result (IsOf job.now) }
-    ensures are { IfOk result (λ journal. AreRounds job.now decls.now (rounds_of journal)) }
+    ensures are { IfOk result (λ tail. AreRounds job.now decls.now (rounds_of tail)) }
+    ensures keeper { IfOk result (λ tail. S.keeps keeper.new decls.now (rounds_of tail)) }
 
     ensures failed { IsErrOf result OpenError.Failed → Rose (K.faults disk.old) (K.faults disk.new) }
 
     ensures kept { WritesNothing K.bytes K.may_leave K.time K.left_since disk.old disk.new }
     ensures faults { DoesNotFall (K.faults disk.old) (K.faults disk.new) }
 {
-    let mut journal = Journal::new(alloc, FRONT_BYTES + size);
-    while read_next(alloc, disk, count, job, decls, &mut journal)? {}
-    Ok(journal)
+    let mut tail = Tail::new(alloc, FRONT_BYTES + size);
+    while read_next(alloc, disk, count, job, decls, &mut tail, keeper)? {}
+    Ok(tail)
 }
 
 // Reads a further round, if the gate behind the last one is open.
-fn read_next<K: Disk>(
+fn read_next<K: Disk, S: Keeper>(
     alloc: Global,
     disk: &mut K,
     count: u64,
     job: &JobBytes,
     decls: &TableDecls,
-    journal: &mut Journal,
+    tail: &mut Tail,
+    keeper: &mut S,
 ) -> Result<bool, OpenError>
     requires all { IfSome (K.bytes disk.old) (λ held. count ≡ length held) }
-    requires at { IsAt job.now decls.now journal.old (K.bytes disk.old) count }
+    requires at { IsAt job.now decls.now tail.old (K.bytes disk.old) count }
+    requires keeper { S.keeps keeper.old decls.now (rounds_of tail.old) }
 
-    ensures value { FitsTurn job.now decls.now (K.bytes disk.old) count journal.old journal.new result }
+    ensures value { FitsTurn job.now decls.now (K.bytes disk.old) count tail.old tail.new result }
+    ensures keeper { IfOk result (λ _. S.keeps keeper.new decls.now (rounds_of tail.new)) }
 
     ensures failed { IsErrOf result OpenError.Failed → Rose (K.faults disk.old) (K.faults disk.new) }
 
     ensures kept { WritesNothing K.bytes K.may_leave K.time K.left_since disk.old disk.new }
     ensures faults { DoesNotFall (K.faults disk.old) (K.faults disk.new) }
 {
-    let gate = journal.end();
+    let gate = tail.end();
     match read_gate(alloc, disk, count, gate)? {
         AtGate::Closed => Ok(false),
         AtGate::Ending(_) => Err(OpenError::Damaged(gate)),
         AtGate::Cut => Err(OpenError::Damaged(gate)),
         AtGate::Entry(entry) => {
-            take_round(alloc, job, decls, journal, &entry)?;
+            take_round(alloc, job, decls, tail, keeper, &entry)?;
             Ok(true)
         }
     }
 }
 
 // Takes over the round whose entry was read at the end of the journal, if it may be the next one.
-fn take_round(
+fn take_round<S: Keeper>(
     alloc: Global,
     job: &JobBytes,
     decls: &TableDecls,
-    journal: &mut Journal,
+    tail: &mut Tail,
+    keeper: &mut S,
     entry: &[u8],
 ) -> Result<(), OpenError>
-    requires are { AreRounds job.now decls.now (rounds_of journal.old) }
-    requires low { end_gate journal.old + length (opened entry.now) < 2 ^ 64 - 1 }
+    requires are { AreRounds job.now decls.now (rounds_of tail.old) }
+    requires low { end_gate tail.old + length (opened entry.now) < 2 ^ 64 - 1 }
+    requires keeper { S.keeps keeper.old decls.now (rounds_of tail.old) }
 
-    ensures value { FitsTaken job.now decls.now journal.old journal.new entry.now result }
+    ensures value { FitsTaken job.now decls.now tail.old tail.new entry.now result }
+    ensures keeper { OnOk result (S.keeps keeper.new decls.now (rounds_of tail.new)) }
 {
-    let gate = journal.end();
+    let gate = tail.end();
     // its type has 32 bits, and no round passes over more
     let _most_passed = job.skip;
     match read_round(alloc, entry) {
         Ok(round) => {
-            if !may_be_next(job, decls, journal.rounds(), &round) {
+            if !can_follow(job, decls, tail.progress(), &round) {
                 return Err(OpenError::Damaged(gate));
             }
-            journal.take(round, entry.len() as u64)?;
+            tail.take(&round, entry.len() as u64);
+            keeper.keep(round)?;
             Ok(())
         }
         Err(EntryError::NotEntry) => Err(OpenError::Damaged(gate)),

@@ -9,7 +9,7 @@ use Rattle.sz_merge.specs.Files.{IsUnfit, IsStopped}
 use Rattle.sz_merge.specs.JoiningLaws.{Gives}
 use Rattle.sz_merge.specs.declared.groups.Group.{Group}
 use Rattle.sz_merge.specs.Together.{bounds_of, HasSameTables, HaveTables, HaveSameTables, CanBeTogether}
-use Rattle.sz_merge.specs.Groups.{Gather, AreOf, Adds, Regroups, HasBound, held_by}
+use Rattle.sz_merge.specs.Groups.{Gather, AreOf, Adds, CanTake, Regroups, HasBound, held_by}
 use Rattle.sz_merge.proofs.TogetherLemmas.{bounds_of_both, led, bound_together, alone, joined_together, can_more}
 
 -- the bounds are those of the states
@@ -118,6 +118,36 @@ held_two groups now last s is =
     ap (λ l. held_by l ++ s ∷ []) is ∙ ap (λ l. l ++ s ∷ []) (held_more groups last)
     ∙ append_assoc (held_by groups) (last.saved ∷ []) (s ∷ [])
 
+-- ---- a state is added
+
+last_has : (ds : List Declaration) (more : List SavedState) (s : SavedState) → HaveTables ds (more ++ s ∷ []) → s.decls ≡ ds
+last_has ds [] s h = h.0
+last_has ds (m ∷ more) s h = last_has ds more s h.1
+
+pub same_of : (before : List SavedState) (s : SavedState) → HaveSameTables (before ++ s ∷ []) → HasSameTables before s
+same_of [] s h = tt
+same_of (f ∷ more) s h = last_has f.decls more s h
+
+-- a state that can be joined to others has their tables, and fits their groups
+pub same_taken : {groups : List SavedState} {saved : SavedState} → CanTake groups saved → HasSameTables groups saved
+same_taken {groups} {saved} take =
+    same_of_gathered groups take.before saved take.are.gather (same_of take.before saved take.can.same)
+
+pub low_taken : {groups : List SavedState} {saved : SavedState} → CanTake groups saved → bounds_of groups + saved.bound ≤ 2 ^ 63
+low_taken {groups} {saved} take =
+    let bounds = bounds_gathered groups take.before take.are.gather in
+    let both = bounds_of_both take.before (saved ∷ []) in
+    let low : bounds_of (take.before ++ saved ∷ []) ≤ 2 ^ 63 = take.can.low in
+    omega (arith, bounds, both, low)
+
+pub taken : {groups before : List SavedState} {saved : SavedState} → AreOf groups before → CanBeSaved saved → HasSameTables groups saved
+    → bounds_of groups + saved.bound ≤ 2 ^ 63 → (now : List SavedState) → Regroups (groups ++ saved ∷ []) now → AreOf now (before ++ saved ∷ [])
+taken {groups} {before} {saved} are can same low now h = record {
+  gather = h.gather (before ++ saved ∷ []) (gather_more groups before saved can are.gather);
+  can = can_more before saved are.can (same_gathered groups before saved are.gather same)
+      (let bounds = bounds_gathered groups before are.gather in omega (arith, bounds, low));
+}
+
 -- ---- a file is added, or not
 
 module _ (groups before : List SavedState) (bytes : List ℕ) (saved : SavedState) (are : AreOf groups before)
@@ -132,10 +162,7 @@ module _ (groups before : List SavedState) (bytes : List ℕ) (saved : SavedStat
       record {
         state = saved;
         follows = record { saves = saves; same = same_before; low = low_before low };
-        now = record {
-          gather = h.gather (before ++ saved ∷ []) (gather_more groups before saved saves.can are.gather);
-          can = can_more before saved are.can same_before (low_before low);
-        };
+        now = taken are saves.can same low now h;
       }
 
   pub unfit_stops : (cause : MergeError) → IsUnfit groups saved cause → IsStopped before bytes cause

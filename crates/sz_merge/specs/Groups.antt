@@ -37,3 +37,9 @@ pub record Regroups (before now : List SavedState) : Type 0 where
 pub record HasBound (groups : List SavedState) (bound : ℕ) : Type 0 where
   pub can : CanBeTogether groups
   pub is : bound ≡ bounds_of groups
+
+-- this state can be joined to those that the groups are of
+pub record CanTake (groups : List SavedState) (saved : SavedState) : Type 0 where
+  pub before : List SavedState
+  pub are : AreOf groups before
+  pub can : CanBeTogether (before ++ saved ∷ [])

@@ -15,7 +15,7 @@ pub(crate) struct Group {
     pub(crate) saved: Saved,
     /// How many rows that is.
     pub(crate) rows: usize,
-    /// How many bytes its first file has for a row.
+    /// How many bytes its first file has for a row, or 0 where it began with no file.
     pub(crate) width: usize,
 }
 

@@ -1,9 +1,9 @@
 //! Files that are joined, one after the other.
-ghost use Rattle.std.specs.Prelude.{◌≡◌, ◌≢◌, ◌↔◌, ◌+◌, ◌≤◌, [], List, IsTrue, IfOk, IfErr};
+ghost use Rattle.std.specs.Prelude.{◌≡◌, ◌≢◌, ◌↔◌, ◌+◌, ◌≤◌, ◌++◌, ◌∷◌, [], List, IsTrue, IfOk, IfErr};
 ghost use Rattle.sz_save_format.specs.Saved.{SavedState, most_bound};
 ghost use Rattle.sz_merge.specs.Together.{AreTogether, HasSameTables, bounds_of};
 ghost use Rattle.sz_merge.specs.Files.{IsUnfit, IsStopped};
-ghost use Rattle.sz_merge.specs.Groups.{AreOf, Adds};
+ghost use Rattle.sz_merge.specs.Groups.{AreOf, Adds, CanTake};
 ghost use Rattle.sz_merge.specs.Reading.{FitsBehind};
 
 use crate::error::MergeError;
@@ -161,6 +161,19 @@ impl Merging {
             Some(first) => same_decls(saved.decls(), first.saved.decls()),
             None => true,
         }
+    }
+
+    /// Adds a state that can be joined to the others.
+    pub fn take(self, alloc: Global, saved: Saved) -> Result<Merging, NoMemory>
+        requires can { CanTake self saved }
+        ensures value { (before : List SavedState) → AreOf self before → IfOk result (λ groups. AreOf groups (before ++ saved ∷ [])) }
+    {
+        let bound = self.bound + saved.bound();
+        let Merging { groups, bound: _ } = self;
+        let rows = row_count(&saved);
+        let width = 0;
+        let groups = with_group(alloc, groups, Group { saved, rows, width })?;
+        Ok(Merging { groups, bound })
     }
 
     /// What all files hold together. There is one at least.

@@ -15,14 +15,15 @@ use Rattle.sz_journal.specs.declared.job.JobBytes.{JobBytes}
 use Rattle.sz_journal.specs.declared.round.RoundEntry.{RoundEntry}
 use Rattle.sz_journal.specs.Rounds.{last_progress, AreRounds}
 use Rattle.sz_journal.specs.Journals.{Spells}
-use Rattle.sz_journal.specs.declared.journal.Journal.{Journal}
+use Rattle.sz_journal.specs.declared.tail.Tail.{Tail}
+use Rattle.sz_journal.specs.Keeping.{IsNextKept}
 use Rattle.sz_journal.specs.Journal.{rounds_of, IsOf, CanAppend, KeepsRounds, SpellsOneOf}
 use Rattle.sz_stream.specs.declared.intake.Intake.{Intake}
 use Rattle.sz_stream.specs.Intakes.{moved_on}
 use Rattle.sz_stream.proofs.RunLemmas as runs
 use Rattle.sz_resume.specs.Standing.{Source, Stands}
 use Rattle.sz_resume.specs.Stops.{IsLeft, LeavesRounds, SpellsMore}
-use Rattle.sz_resume.specs.Runs.{IsJournalOf, HasJournal}
+use Rattle.sz_resume.specs.Runs.{IsJournalOf}
 use Rattle.sz_resume.specs.Entries.{done_of, IsNext}
 use Rattle.sz_resume.specs.Turns.{AllStand, IsAfter, HasNext, AddsRound}
 use Rattle.sz_resume.proofs.NumberLemmas.{are_more}
@@ -70,20 +71,31 @@ module _ {job : Job} {before : List RoundEntry} {old : Intake} (h : HasNext job 
       stand_more job source before all records ending sizes cut are (fresh_of b)
       (goes_on_behind b (drop (last_progress before).bytes source.bytes) told) h.some es n is round next
 
-  module _ (journal : Journal) (same : rounds_of journal ≡ before) where
+  module _ (journal : Tail) (same : rounds_of journal ≡ before) where
     are_of : (name : JobBytes) (bytes : Option (List ℕ)) → IsJournalOf name job journal bytes → IsJob job
         → AreRounds name (all_tables job.compiled) (rounds_of journal ++ round ∷ [])
     are_of name bytes j job_is =
         subst (λ rs. AreRounds name (all_tables job.compiled) (rs ++ round ∷ [])) (sym same)
         (are_then name (subst (AreRounds name (all_tables job.compiled)) same j.are) j.budget j.skip job_is.budget.most)
 
-    pub can_append : (bytes : Option (List ℕ)) → HasJournal job journal bytes → IsJob job → CanAppend journal bytes round
-    can_append bytes j job_is = record {
-      job = j.name;
+    pub can_append : (name : JobBytes) (bytes : Option (List ℕ)) → IsJournalOf name job journal bytes → IsJob job → CanAppend journal bytes round
+    can_append name bytes j job_is = record {
+      job = name;
       decls = all_tables job.compiled;
-      is_of = j.is.is_of;
-      spells = j.is.spells;
-      are = are_of j.name bytes j.is job_is;
+      is_of = j.is_of;
+      spells = j.spells;
+      are = are_of name bytes j job_is;
+    }
+
+    -- and its tables can be joined to those of the rounds
+    pub can_join : {J : Type 0} {keeper : J} (keeps : J → List Declaration → List RoundEntry → Type 0) (name : JobBytes) (bytes : Option (List ℕ))
+        → IsJournalOf name job journal bytes → IsJob job → keeps keeper (all_tables job.compiled) (rounds_of journal) → IsNextKept keeps keeper round
+    can_join keeps name bytes j job_is kept = record {
+      job = name;
+      decls = all_tables job.compiled;
+      before = rounds_of journal;
+      kept = kept;
+      are = are_of name bytes j job_is;
     }
 
     spells_after : (name : JobBytes) (rs all : List RoundEntry) (bytes after : Option (List ℕ)) (may_leave : Images) → (bytes ≡ None → after ≡ None)
@@ -98,7 +110,7 @@ module _ {job : Job} {before : List RoundEntry} {old : Intake} (h : HasNext job 
         subst (λ b. IfSome b (λ held. Spells name (all_tables job.compiled) held all)) (sym k.rests.read) k.spells
 
     -- the journal is still one of the job
-    pub journal_is : (new : Journal) (bytes after : Option (List ℕ)) (may_leave : Images) → IsJob job → rounds_of new ≡ rounds_of journal ++ round ∷ []
+    pub journal_is : (new : Tail) (bytes after : Option (List ℕ)) (may_leave : Images) → IsJob job → rounds_of new ≡ rounds_of journal ++ round ∷ []
         → ((name : JobBytes) → IsOf name journal → IsOf name new) → (bytes ≡ None → after ≡ None)
         → ((name : JobBytes) (decls : List Declaration) (held : List ℕ) → bytes ≡ Some held → IsOf name journal → Spells name decls held (rounds_of journal)
         → AreRounds name decls (rounds_of journal ++ round ∷ []) → KeepsRounds after may_leave name decls (rounds_of journal ++ round ∷ []))
@@ -117,7 +129,7 @@ module _ {job : Job} {before : List RoundEntry} {old : Intake} (h : HasNext job 
         }
 
     -- and a crash leaves what a read gives
-    pub keeps_then : (new : Journal) (bytes after : Option (List ℕ)) (may_leave : Images) → IsJob job → rounds_of new ≡ rounds_of journal ++ round ∷ []
+    pub keeps_then : (new : Tail) (bytes after : Option (List ℕ)) (may_leave : Images) → IsJob job → rounds_of new ≡ rounds_of journal ++ round ∷ []
         → ((name : JobBytes) (decls : List Declaration) (held : List ℕ) → bytes ≡ Some held → IsOf name journal → Spells name decls held (rounds_of journal)
         → AreRounds name decls (rounds_of journal ++ round ∷ []) → KeepsRounds after may_leave name decls (rounds_of journal ++ round ∷ []))
         → (name : JobBytes) (held : List ℕ) → bytes ≡ Some held → IsJournalOf name job journal bytes

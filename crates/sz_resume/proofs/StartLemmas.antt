@@ -6,9 +6,10 @@ use Rattle.sz_mean.specs.Marked.{all_tables}
 use Rattle.sz_save_format.specs.Saved.{SavedState}
 use Rattle.sz_attempt.specs.declared.job.Job.{Job}
 use Rattle.sz_journal.specs.declared.job.JobBytes.{JobBytes}
+use Rattle.sz_journal.specs.declared.progress.Progress.{Progress}
 use Rattle.sz_journal.specs.declared.round.RoundEntry.{RoundEntry}
 use Rattle.sz_journal.specs.Rounds.{last_progress}
-use Rattle.sz_journal.specs.declared.journal.Journal.{Journal}
+use Rattle.sz_journal.specs.declared.tail.Tail.{Tail}
 use Rattle.sz_journal.specs.Journal.{rounds_of}
 use Rattle.sz_stream.specs.declared.done.Done.{Done}
 use Rattle.sz_stream.specs.declared.stop.Stop.TheVariants as stops
@@ -43,10 +44,10 @@ long_enough (Some s) (Some l) bytes input skips is =
     let enough = skips.enough refl in omega (arith, long, enough, length-append skips.dropped l)
 
 -- the same where the bytes of rounds were all dropped
-module _ {before after : Option (List ℕ)} {done : Done} {all : Bool} {now rounds : List RoundEntry} {input : List ℕ} (skips : Skips before after done.bytes all)
-    (test : all ≡ true) (done_is : done ≡ done_of (last_progress now)) (rounds_are : now ≡ rounds) (is : before ≡ Some input) where
+module _ {before after : Option (List ℕ)} {done : Done} {all : Bool} {progress : Progress} {rounds : List RoundEntry} {input : List ℕ} (skips : Skips before after done.bytes all)
+    (test : all ≡ true) (done_is : done ≡ done_of progress) (progress_is : progress ≡ last_progress rounds) (is : before ≡ Some input) where
   place_is : done.bytes ≡ (last_progress rounds).bytes
-  place_is = ap (λ (d : Done). d.bytes) done_is ∙ ap (λ rs. (last_progress rs).bytes) rounds_are
+  place_is = ap (λ (d : Done). d.bytes) done_is ∙ ap (λ (p : Progress). p.bytes) progress_is
 
   all_dropped : Skips before after done.bytes true
   all_dropped = subst (Skips before after done.bytes) test skips
@@ -58,19 +59,19 @@ module _ {before after : Option (List ℕ)} {done : Done} {all : Bool} {now roun
   long_input = let long = long_enough before after done.bytes input all_dropped is in omega (arith, long, place_is)
 
 -- the journal that is found has the job's entry
-pub found_is : {name : JobBytes} {job : Job} {source : Source} {journal : Journal} {bytes : Option (List ℕ)} {held : List ℕ} → bytes ≡ Some held
+pub found_is : {name : JobBytes} {job : Job} {source : Source} {journal : Tail} {bytes : Option (List ℕ)} {held : List ℕ} → bytes ≡ Some held
     → IsJournalOf name job journal bytes → IsFound name job source held (rounds_of journal) → Stands name job source held (rounds_of journal)
 found_is {name = name} {job = job} {journal = journal} {held = held} told j (inl none) =
     absurd (not_empty name (all_tables job.compiled) held (rounds_of journal) (spelled_at told j) none.0)
 found_is told j (inr stands) = stands
 
 -- what an answer says of the input's length
-pub tells_all : (journal : Journal) (left : Option (List ℕ)) (answer : Result SavedState Halt)
+pub tells_all : (journal : Tail) (left : Option (List ℕ)) (answer : Result SavedState Halt)
     → ((input : List ℕ) → left ≡ Some input → TellsShort journal input answer) → IfSome left (λ input. TellsShort journal input answer)
 tells_all journal None answer tells = tt
 tells_all journal (Some input) answer tells = tells input refl
 
-pub tells_long : (journal : Journal) (input : List ℕ) (answer : Result SavedState Halt) → ((gate : ℕ) → answer ≡ Err (halts.Short gate) → ⊥)
+pub tells_long : (journal : Tail) (input : List ℕ) (answer : Result SavedState Halt) → ((gate : ℕ) → answer ≡ Err (halts.Short gate) → ⊥)
     → (last_progress (rounds_of journal)).bytes ≤ length input → TellsShort journal input answer
 tells_long journal input (Ok all) none long = long
 tells_long journal input (Err (halts.Short gate)) none long = absurd (none gate refl)

@@ -29,7 +29,7 @@ use Rattle.sz_journal.specs.declared.progress.Progress.{Progress}
 use Rattle.sz_journal.specs.declared.round.RoundEntry.{RoundEntry}
 use Rattle.sz_journal.specs.Rounds.{no_progress, progress_of, last_progress, all_bounds}
 use Rattle.sz_journal.specs.Journals.{Spells}
-use Rattle.sz_journal.specs.declared.journal.Journal.{Journal}
+use Rattle.sz_journal.specs.declared.tail.Tail.{Tail}
 use Rattle.sz_stream.specs.declared.done.Done.{Done}
 use Rattle.sz_stream.specs.declared.intake.Intake.{Intake}
 use Rattle.sz_stream.specs.declared.stop.Stop.TheVariants as stops
@@ -164,7 +164,7 @@ module _ (job : Job) (source : Source) where
 
   -- ---- answers
 
-  module _ (journal : Journal) (rounds : List RoundEntry) (all : AllStand job source rounds) {intake : Intake} {emits : List EmitDatum} {read : List ℕ}
+  module _ (journal : Tail) (rounds : List RoundEntry) (all : AllStand job source rounds) {intake : Intake} {emits : List EmitDatum} {read : List ℕ}
       {over : Bool} (fresh : IsFresh (done_of (last_progress rounds)) job source.frame source.most intake emits read over)
       (on : GoesOn read over (drop (last_progress rounds).bytes source.bytes)) where
     -- a shard of the round decides, or there was no memory

@@ -22,7 +22,7 @@ use Rattle.sz_journal.specs.declared.progress.Progress.{Progress}
 use Rattle.sz_journal.specs.declared.round.RoundEntry.{RoundEntry}
 use Rattle.sz_journal.specs.Rounds.{no_progress, last_progress}
 use Rattle.sz_journal.specs.Journals.{Spells}
-use Rattle.sz_journal.specs.declared.journal.Journal.{Journal}
+use Rattle.sz_journal.specs.declared.tail.Tail.{Tail}
 use Rattle.sz_journal.specs.Journal.{rounds_of, KeepsRounds}
 use Rattle.sz_stream.specs.declared.done.Done.{Done}
 use Rattle.sz_stream.specs.declared.intake.Intake.{Intake}
@@ -153,13 +153,13 @@ module _ {job : Job} {frame : Frame} {most : ℕ} where
         abbrev pub source : Source
         source = record { frame = frame; most = most; bytes = input }
 
-        pub way_ends : (journal : Journal) → AllStand job source rounds → (answer : Result SavedState Halt)
+        pub way_ends : (journal : Tail) → AllStand job source rounds → (answer : Result SavedState Halt)
             → EndsSo (all_tables job.compiled) rounds e answer → RunsSource job journal source answer
         way_ends journal all answer so =
             ends_source job source journal rounds all (fresh_of b) (goes_on_behind b (drop (last_progress rounds).bytes input) told) e ending_is no_items
             answer so
 
-        pub way_holds : (journal : Journal) → AllStand job source rounds → (name : JobBytes) (held : List ℕ) (before : List RoundEntry)
+        pub way_holds : (journal : Tail) → AllStand job source rounds → (name : JobBytes) (held : List ℕ) (before : List RoundEntry)
             → Stands name job source held before → (bytes : Option (List ℕ)) (may_leave : Images)
             → KeepsRounds bytes may_leave name (all_tables job.compiled) rounds → HoldsAll bytes may_leave name job source rounds
         way_holds journal all name held before stands bytes may_leave keeps =
@@ -167,7 +167,7 @@ module _ {job : Job} {frame : Frame} {most : ℕ} where
             held keeps.held
             before stands bytes may_leave keeps.rests keeps.spells
 
-    pub way_halts : (input : List ℕ) → start ≡ Some (drop (last_progress rounds).bytes input) → (journal : Journal)
+    pub way_halts : (input : List ℕ) → start ≡ Some (drop (last_progress rounds).bytes input) → (journal : Tail)
         → AllStand job (record { frame = frame; most = most; bytes = input }) rounds → (halt : Halt)
         → StopsHalt (Rattle.sz_workers.specs.Outcomes.outcome_from job old.round.passed (Rattle.sz_workers.specs.Rounds.shards_of old.round)) halt
         → RunsSource job journal (record { frame = frame; most = most; bytes = input }) (Err halt)
@@ -206,17 +206,17 @@ none_not None other = refl
 none_not (Some x) other = absurd (other x refl)
 
 -- what the journal is at the start
-pub spelled_at : {name : JobBytes} {job : Job} {journal : Journal} {bytes : Option (List ℕ)} {held : List ℕ} → bytes ≡ Some held
+pub spelled_at : {name : JobBytes} {job : Job} {journal : Tail} {bytes : Option (List ℕ)} {held : List ℕ} → bytes ≡ Some held
     → IsJournalOf name job journal bytes → Spells name (all_tables job.compiled) held (rounds_of journal)
 spelled_at {name = name} {job = job} {journal = journal} told j =
     subst (λ b. IfSome b (λ held. Spells name (all_tables job.compiled) held (rounds_of journal))) told j.spells
 
-pub keeps_at : {name : JobBytes} {job : Job} {journal : Journal} {bytes : Option (List ℕ)} {may_leave : Images} {held : List ℕ}
+pub keeps_at : {name : JobBytes} {job : Job} {journal : Tail} {bytes : Option (List ℕ)} {may_leave : Images} {held : List ℕ}
     → Rests bytes may_leave held → IsJournalOf name job journal bytes → KeepsRounds bytes may_leave name (all_tables job.compiled) (rounds_of journal)
 keeps_at {held = held} rests j = record { held = held; rests = rests; spells = spelled_at rests.read j }
 
 -- a piece couldn't be read
-pub way_unread : (job : Job) (journal : Journal) (source : Source) (error : OutsideError) → RunsSource job journal source (Err (of_file error))
+pub way_unread : (job : Job) (journal : Tail) (source : Source) (error : OutsideError) → RunsSource job journal source (Err (of_file error))
 way_unread job journal whole outside.Failed records ending sizes cut are = tt
 way_unread job journal whole outside.NoMemory records ending sizes cut are = tt
 

@@ -9,8 +9,6 @@ use Rattle.sz_attempt.specs.declared.job.Job.{Job}
 use Rattle.sz_journal.specs.declared.progress.Progress.{Progress}
 use Rattle.sz_journal.specs.declared.round.RoundEntry.{RoundEntry}
 use Rattle.sz_journal.specs.Rounds.{progress_of, all_bounds}
-use Rattle.sz_merge.specs.Together.{CanBeTogether}
-use Rattle.sz_merge.specs.Groups.{AreOf}
 use Rattle.sz_stream.specs.declared.done.Done.{Done}
 use Rattle.sz_stream.specs.declared.intake.Intake.{Intake}
 use Rattle.sz_stream.specs.Intakes.{done_with}
@@ -25,6 +23,14 @@ pub record IsNext (job : Job) (intake : Intake) (passed : ℕ) (emits : List Emi
   pub done : done_of (progress_of round) ≡ done_with passed intake
   pub saved : round.saved ≡ state_of_emits (intake.closed * job.budget) (all_tables job.compiled) emits
   pub can : CanBeSaved round.saved
+
+-- what is saved of nothing
+abbrev pub nothing : List Declaration → SavedState
+nothing decls = state_of_emits 0 decls []
+
+-- what the round holds
+abbrev pub saved_in : RoundEntry → SavedState
+saved_in round = round.saved
 
 -- each round has what is saved of one of these parts, in order, with some bound
 abbrev pub AreSavedOf : List Declaration → List RoundEntry → List (List EmitDatum) → Type 0
@@ -41,9 +47,3 @@ all_parts (part ∷ parts) = part ++ all_parts parts
 abbrev pub HoldsRounds : List Declaration → List RoundEntry → SavedState → Type 0
 HoldsRounds decls rounds all =
     (parts : List (List EmitDatum)) → AreSavedOf decls rounds parts → all ≡ state_of_emits (all_bounds rounds) decls (all_parts parts)
-
--- the groups are of some states, and this one can be joined to those
-pub record CanTake (groups : List SavedState) (saved : SavedState) : Type 0 where
-  pub before : List SavedState
-  pub are : AreOf groups before
-  pub can : CanBeTogether (before ++ saved ∷ [])

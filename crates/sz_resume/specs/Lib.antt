@@ -2,6 +2,7 @@
 pub mod Standing
 pub mod Stops
 pub mod Runs
+pub mod Joining
 pub mod Resumable
 -- what the functions inside the crate promise each other
 pub mod Halts

@@ -16,7 +16,7 @@ use Rattle.sz_workers.specs.Cuts.{cut_into}
 use Rattle.sz_journal.specs.declared.job.JobBytes.{JobBytes}
 use Rattle.sz_journal.specs.Rounds.{AreRounds, last_progress}
 use Rattle.sz_journal.specs.Journals.{Spells}
-use Rattle.sz_journal.specs.declared.journal.Journal.{Journal}
+use Rattle.sz_journal.specs.declared.tail.Tail.{Tail}
 use Rattle.sz_journal.specs.Journal.{rounds_of, last_gate, IsOf}
 use Rattle.sz_stream.specs.declared.stop.Stop.TheVariants as stops
 use Rattle.sz_stream.specs.Inputs.{GivesAll}
@@ -26,17 +26,12 @@ use Rattle.sz_resume.specs.Standing.{Source}
 
 -- The journal is one of the job with this name, and its disk spells it where it tells its bytes: so the numbers of its rounds are within their bounds, and
 -- a further round can be appended
-pub record IsJournalOf (name : JobBytes) (job : Job) (journal : Journal) (bytes : Option (List ℕ)) : Type 0 where
+pub record IsJournalOf (name : JobBytes) (job : Job) (journal : Tail) (bytes : Option (List ℕ)) : Type 0 where
   pub is_of : IsOf name journal
   pub budget : name.budget ≡ job.budget
   pub skip : name.skip ≡ job.skip
   pub spells : IfSome bytes (λ held. Spells name (all_tables job.compiled) held (rounds_of journal))
   pub are : AreRounds name (all_tables job.compiled) (rounds_of journal)
-
--- the same of a job with some name
-pub record HasJournal (job : Job) (journal : Journal) (bytes : Option (List ℕ)) : Type 0 where
-  pub name : JobBytes
-  pub is : IsJournalOf name job journal bytes
 
 -- so many bytes of a file were dropped, or all that were left, which are fewer
 pub record Skips (before after : Option (List ℕ)) (bytes : ℕ) (all : Bool) : Type 0 where
@@ -51,7 +46,7 @@ abbrev pub HoldsEmits : Job → ℕ → List EmitDatum → SavedState → Type 0
 HoldsEmits job count emits tables = tables ≡ state_of_emits (count * job.budget) (all_tables job.compiled) emits
 
 -- the answer is that of an input of so many bytes, with so many records, which have this ending, and of whose shards comes this
-abbrev pub EndsJob : Job → Journal → (size count : ℕ) → Ending → ShardsEnd → Result SavedState Halt → Type 0
+abbrev pub EndsJob : Job → Tail → (size count : ℕ) → Ending → ShardsEnd → Result SavedState Halt → Type 0
 EndsJob job journal size count ending outcome (Ok tables) =
     (emits : List EmitDatum) × (passed : ℕ) × (ending ≡ endings.Whole) × (outcome ≡ emitted emits passed) × HoldsEmits job count emits tables
 EndsJob job journal size count ending outcome (Err (Short gate)) = (gate ≡ last_gate journal) × (size < (last_progress (rounds_of journal)).bytes)
@@ -62,14 +57,14 @@ EndsJob job journal size count ending outcome (Err (Stopped (stops.Limit byte)))
 EndsJob job journal size count ending outcome (Err other) = ⊤
 
 -- the answer is that of the records of a source, and of the shards that they are cut into
-abbrev pub RunsSource : Job → Journal → Source → Result SavedState Halt → Type 0
+abbrev pub RunsSource : Job → Tail → Source → Result SavedState Halt → Type 0
 RunsSource job journal source answer =
     (records : List (List ℕ)) (ending : Ending) (sizes : List ℕ) → IsCut source.frame full 0 0 source.bytes records ending
     → AreShards source.most records sizes
     → EndsJob job journal (length source.bytes) (length records) ending (outcome_of job (cut_into 0 1 records sizes)) answer
 
 -- an answer of a file that tells its bytes says that it is too short exactly where it is
-abbrev pub TellsShort : Journal → List ℕ → Result SavedState Halt → Type 0
+abbrev pub TellsShort : Tail → List ℕ → Result SavedState Halt → Type 0
 TellsShort journal bytes (Err (Short gate)) = (gate ≡ last_gate journal) × (length bytes < (last_progress (rounds_of journal)).bytes)
 TellsShort journal bytes (Err (Stopped stops.ReadFailed)) = ⊤
 TellsShort journal bytes (Err (Stopped stops.NoMemory)) = ⊤

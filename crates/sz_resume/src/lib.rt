@@ -2,14 +2,17 @@
 #![tactic(auto)]
 
 mod halt;
+mod job_journal;
+mod joined;
 mod laws;
 mod resume;
 mod resumed_job;
 mod round;
 mod skip;
-mod tables;
 
 pub use halt::Halt;
+pub use job_journal::JobJournal;
+pub use joined::Joined;
 pub use laws::stops_leave_the_job;
 pub use resume::resume_file;
 pub use resumed_job::ResumedJob;

@@ -3,13 +3,14 @@ ghost use Rattle.std.specs.Prelude.{◌≡◌, ◌<◌, ◌≤◌, ◌++◌, ℕ
 ghost use Rattle.std.specs.Io.KnownBytes.{IsAtEnd};
 ghost use Rattle.sz_io.specs.Rose.{Rose};
 ghost use Rattle.sz_io.specs.Opened.{KeepsOtherFiles};
+ghost use Rattle.sz_types.specs.Tables.{Declaration};
 ghost use Rattle.sz_mean.specs.Marked.{all_tables};
 ghost use Rattle.sz_disk.specs.Crashes.{are_told};
 ghost use Rattle.sz_disk.specs.Crashing.{Rests, LeavesOnly, DoesNotFall};
 ghost use Rattle.sz_journal.specs.Journal.{rounds_of, last_gate, KeepsRounds};
 ghost use Rattle.sz_journal.specs.declared.job.JobBytes.{JobBytes};
 ghost use Rattle.sz_journal.specs.declared.round.RoundEntry.{RoundEntry};
-ghost use Rattle.sz_journal.specs.Rounds.{AreRounds, last_progress};
+ghost use Rattle.sz_journal.specs.Rounds.{last_progress};
 ghost use Rattle.sz_workers.specs.Outcomes.{outcome_from};
 ghost use Rattle.sz_workers.specs.Rounds.{shards_of};
 ghost use Rattle.sz_stream.specs.Intakes.{CanGoOn};
@@ -19,19 +20,21 @@ ghost use Rattle.sz_resume.specs.Standing.{Source, Stands, IsFound};
 ghost use Rattle.sz_resume.specs.Entries.{done_of};
 ghost use Rattle.sz_resume.specs.Turns.{AllStand, IsAfter, HasNext, AddsRound, StopsHalt, EndsSo};
 ghost use Rattle.sz_resume.specs.Stops.{AreSmall, LeavesRounds, SpellsMore, HoldsAll};
-ghost use Rattle.sz_resume.specs.Runs.{IsJournalOf, HasJournal, RunsSource, TellsShort};
+ghost use Rattle.sz_resume.specs.Runs.{IsJournalOf, RunsSource, TellsShort};
+ghost use Rattle.sz_resume.specs.Joining.{HaveJoined, HasJournal};
 ghost use Rattle.sz_resume.specs.Resumable.{CanResume, source_in};
 
 use crate::halt::{Halt, of_disk, of_file};
+use crate::job_journal::JobJournal;
+use crate::joined::Joined;
 use crate::resumed_job::ResumedJob;
 use crate::round::{done_after, round_entry};
 use crate::skip::skip;
-use crate::tables::tables_of;
 use std::alloc::Global;
 use std::thread::Threads;
 use sz_disk::Disk;
 use sz_io::{Files, Gate, OutsideError};
-use sz_journal::Journal;
+use sz_journal::Keeper;
 use sz_records::Ending;
 use sz_save::Saved;
 use sz_stream::{Done, Intake, PIECE_BYTES, Stop, fill, run_at_hand};
@@ -51,7 +54,7 @@ pub fn resume_file<R: Threads + Sync, F: Files, G: Gate + Sync, K: Disk>(
     files: &mut F,
     file: u32,
     gate: &G,
-    journal: &mut Journal,
+    journal: &mut JobJournal,
     disk: &mut K,
 ) -> Result<Saved, Halt>
     requires given { IsTrue (F.given files.old file) }
@@ -59,28 +62,28 @@ pub fn resume_file<R: Threads + Sync, F: Files, G: Gate + Sync, K: Disk>(
     requires journal { HasJournal run.now.job journal.old (K.bytes disk.old) }
 
     ensures value { (input held : List ℕ) (name : JobBytes) → F.left files.old file ≡ Some input → K.bytes disk.old ≡ Some held
-        → IsFound name run.now.job (source_in run.now input) held (rounds_of journal.old)
-        → RunsSource run.now.job journal.old (source_in run.now input) result }
-    ensures short { IfSome (F.left files.old file) (λ input. TellsShort journal.old input result) }
-    ensures gate { (gate : ℕ) → IsErrOf result (Halt.Short gate) → (gate ≡ last_gate journal.old) × (0 < (last_progress (rounds_of journal.old)).bytes) }
+        → IsFound name run.now.job (source_in run.now input) held (rounds_of journal.old.tail)
+        → RunsSource run.now.job journal.old.tail (source_in run.now input) result }
+    ensures short { IfSome (F.left files.old file) (λ input. TellsShort journal.old.tail input result) }
+    ensures gate { (gate : ℕ) → IsErrOf result (Halt.Short gate) → (gate ≡ last_gate journal.old.tail) × (0 < (last_progress (rounds_of journal.old.tail)).bytes) }
     ensures short_keeps { (gate : ℕ) → IsErrOf result (Halt.Short gate) → (disk.new ≡ disk.old) × (journal.new ≡ journal.old) }
     ensures end { OnOk result (IsAtEnd (F.left files.new file)) }
     ensures told { OnOk result (IfSome (F.left files.old file) (λ _. IsSome (F.left files.new file))) }
-    ensures grows { OnOk result ((added : List RoundEntry) × (rounds_of journal.new ≡ rounds_of journal.old ++ added)
-        × AreSmall (last_progress (rounds_of journal.old)) added) }
+    ensures grows { OnOk result ((added : List RoundEntry) × (rounds_of journal.new.tail ≡ rounds_of journal.old.tail ++ added)
+        × AreSmall (last_progress (rounds_of journal.old.tail)) added) }
 
     ensures stopped { (input held : List ℕ) (name : JobBytes) → F.left files.old file ≡ Some input → Rests (K.bytes disk.old) (K.may_leave disk.old) held
-        → are_told (K.may_leave disk.old) ≡ true → IsJournalOf name run.now.job journal.old (K.bytes disk.old)
-        → IsFound name run.now.job (source_in run.now input) held (rounds_of journal.old)
-        → (added : List RoundEntry) × LeavesRounds K.time K.left_since disk.old disk.new name run.now.job (source_in run.now input) held (rounds_of journal.old) added
-        × OnOk result (rounds_of journal.new ≡ rounds_of journal.old ++ added) }
+        → are_told (K.may_leave disk.old) ≡ true → IsJournalOf name run.now.job journal.old.tail (K.bytes disk.old)
+        → IsFound name run.now.job (source_in run.now input) held (rounds_of journal.old.tail)
+        → (added : List RoundEntry) × LeavesRounds K.time K.left_since disk.old disk.new name run.now.job (source_in run.now input) held (rounds_of journal.old.tail) added
+        × OnOk result (rounds_of journal.new.tail ≡ rounds_of journal.old.tail ++ added) }
     ensures entries { (name : JobBytes) (held : List ℕ) → Rests (K.bytes disk.old) (K.may_leave disk.old) held → are_told (K.may_leave disk.old) ≡ true
-        → IsJournalOf name run.now.job journal.old (K.bytes disk.old)
-        → LeavesOnly K.time K.left_since disk.old disk.new (SpellsMore name (all_tables run.now.job.compiled) (rounds_of journal.old)) }
+        → IsJournalOf name run.now.job journal.old.tail (K.bytes disk.old)
+        → LeavesOnly K.time K.left_since disk.old disk.new (SpellsMore name (all_tables run.now.job.compiled) (rounds_of journal.old.tail)) }
     ensures ended { (input held : List ℕ) (name : JobBytes) → F.left files.old file ≡ Some input → Rests (K.bytes disk.old) (K.may_leave disk.old) held
-        → IsJournalOf name run.now.job journal.old (K.bytes disk.old)
-        → IsFound name run.now.job (source_in run.now input) held (rounds_of journal.old)
-        → OnOk result (HoldsAll (K.bytes disk.new) (K.may_leave disk.new) name run.now.job (source_in run.now input) (rounds_of journal.new)) }
+        → IsJournalOf name run.now.job journal.old.tail (K.bytes disk.old)
+        → IsFound name run.now.job (source_in run.now input) held (rounds_of journal.old.tail)
+        → OnOk result (HoldsAll (K.bytes disk.new) (K.may_leave disk.new) name run.now.job (source_in run.now input) (rounds_of journal.new.tail)) }
 
     ensures failed { IsErrOf result (Halt.Stopped Stop.ReadFailed) → Rose (F.faults files.old) (F.faults files.new) }
     ensures disk_failed { IsErrOf result Halt.DiskFailed → Rose (K.faults disk.old) (K.faults disk.new) }
@@ -89,10 +92,10 @@ pub fn resume_file<R: Threads + Sync, F: Files, G: Gate + Sync, K: Disk>(
 {
     let mut buffer = Vec::new(alloc);
     buffer.resize(PIECE_BYTES, 0)?;
-    let done = done_after(journal.rounds());
+    let done = done_after(journal.tail.progress());
     let all = skip(files, file, &mut buffer, done.bytes)?;
     if !all {
-        return Err(Halt::Short(journal.last_gate()));
+        return Err(Halt::Short(journal.tail.last_gate()));
     }
     run_after(
         rt,
@@ -117,7 +120,7 @@ fn run_after<R: Threads + Sync, F: Files, G: Gate + Sync, K: Disk>(
     file: u32,
     buffer: &mut [u8],
     gate: &G,
-    journal: &mut Journal,
+    journal: &mut JobJournal,
     disk: &mut K,
     done: Done,
 ) -> Result<Saved, Halt>
@@ -125,32 +128,32 @@ fn run_after<R: Threads + Sync, F: Files, G: Gate + Sync, K: Disk>(
     requires room { 0 < length buffer.old }
     requires can_resume { CanResume run.now }
     requires journal { HasJournal run.now.job journal.old (K.bytes disk.old) }
-    requires done { done ≡ done_of (last_progress (rounds_of journal.old)) }
+    requires done { done ≡ done_of (last_progress (rounds_of journal.old.tail)) }
     requires can { CanGoOn done }
     requires passed { done.passed ≤ run.now.job.skip }
 
-    ensures value { (input : List ℕ) → F.left files.old file ≡ Some (drop (last_progress (rounds_of journal.old)).bytes input)
-        → AllStand run.now.job (source_in run.now input) (rounds_of journal.old)
-        → RunsSource run.now.job journal.old (source_in run.now input) result }
+    ensures value { (input : List ℕ) → F.left files.old file ≡ Some (drop (last_progress (rounds_of journal.old.tail)).bytes input)
+        → AllStand run.now.job (source_in run.now input) (rounds_of journal.old.tail)
+        → RunsSource run.now.job journal.old.tail (source_in run.now input) result }
     ensures long { (gate : ℕ) → IsErrOf result (Halt.Short gate) → ⊥ }
     ensures end { OnOk result (IsAtEnd (F.left files.new file)) }
     ensures told { OnOk result (IfSome (F.left files.old file) (λ _. IsSome (F.left files.new file))) }
-    ensures grows { OnOk result ((added : List RoundEntry) × (rounds_of journal.new ≡ rounds_of journal.old ++ added)
-        × AreSmall (last_progress (rounds_of journal.old)) added) }
+    ensures grows { OnOk result ((added : List RoundEntry) × (rounds_of journal.new.tail ≡ rounds_of journal.old.tail ++ added)
+        × AreSmall (last_progress (rounds_of journal.old.tail)) added) }
 
-    ensures stopped { (input held : List ℕ) (name : JobBytes) → F.left files.old file ≡ Some (drop (last_progress (rounds_of journal.old)).bytes input)
+    ensures stopped { (input held : List ℕ) (name : JobBytes) → F.left files.old file ≡ Some (drop (last_progress (rounds_of journal.old.tail)).bytes input)
         → Rests (K.bytes disk.old) (K.may_leave disk.old) held → are_told (K.may_leave disk.old) ≡ true
-        → IsJournalOf name run.now.job journal.old (K.bytes disk.old)
-        → Stands name run.now.job (source_in run.now input) held (rounds_of journal.old)
-        → (added : List RoundEntry) × LeavesRounds K.time K.left_since disk.old disk.new name run.now.job (source_in run.now input) held (rounds_of journal.old) added
-        × OnOk result (rounds_of journal.new ≡ rounds_of journal.old ++ added) }
+        → IsJournalOf name run.now.job journal.old.tail (K.bytes disk.old)
+        → Stands name run.now.job (source_in run.now input) held (rounds_of journal.old.tail)
+        → (added : List RoundEntry) × LeavesRounds K.time K.left_since disk.old disk.new name run.now.job (source_in run.now input) held (rounds_of journal.old.tail) added
+        × OnOk result (rounds_of journal.new.tail ≡ rounds_of journal.old.tail ++ added) }
     ensures entries { (name : JobBytes) (held : List ℕ) → Rests (K.bytes disk.old) (K.may_leave disk.old) held → are_told (K.may_leave disk.old) ≡ true
-        → IsJournalOf name run.now.job journal.old (K.bytes disk.old)
-        → LeavesOnly K.time K.left_since disk.old disk.new (SpellsMore name (all_tables run.now.job.compiled) (rounds_of journal.old)) }
-    ensures ended { (input held : List ℕ) (name : JobBytes) → F.left files.old file ≡ Some (drop (last_progress (rounds_of journal.old)).bytes input)
-        → Rests (K.bytes disk.old) (K.may_leave disk.old) held → IsJournalOf name run.now.job journal.old (K.bytes disk.old)
-        → Stands name run.now.job (source_in run.now input) held (rounds_of journal.old)
-        → OnOk result (HoldsAll (K.bytes disk.new) (K.may_leave disk.new) name run.now.job (source_in run.now input) (rounds_of journal.new)) }
+        → IsJournalOf name run.now.job journal.old.tail (K.bytes disk.old)
+        → LeavesOnly K.time K.left_since disk.old disk.new (SpellsMore name (all_tables run.now.job.compiled) (rounds_of journal.old.tail)) }
+    ensures ended { (input held : List ℕ) (name : JobBytes) → F.left files.old file ≡ Some (drop (last_progress (rounds_of journal.old.tail)).bytes input)
+        → Rests (K.bytes disk.old) (K.may_leave disk.old) held → IsJournalOf name run.now.job journal.old.tail (K.bytes disk.old)
+        → Stands name run.now.job (source_in run.now input) held (rounds_of journal.old.tail)
+        → OnOk result (HoldsAll (K.bytes disk.new) (K.may_leave disk.new) name run.now.job (source_in run.now input) (rounds_of journal.new.tail)) }
 
     ensures failed { IsErrOf result (Halt.Stopped Stop.ReadFailed) → Rose (F.faults files.old) (F.faults files.new) }
     ensures disk_failed { IsErrOf result Halt.DiskFailed → Rose (K.faults disk.old) (K.faults disk.new) }
@@ -161,7 +164,7 @@ fn run_after<R: Threads + Sync, F: Files, G: Gate + Sync, K: Disk>(
     loop {
         fill_round(&mut intake, files, file, buffer)?;
         if let Some(ending) = intake.end() {
-            return ended(alloc, run, journal, ending);
+            return ended(&mut journal.joined, ending);
         }
         run_next(rt, alloc, run, &mut intake, gate, journal, disk)?;
     }
@@ -196,34 +199,35 @@ fn run_next<R: Threads + Sync, G: Gate + Sync, K: Disk>(
     run: &ResumedJob,
     intake: &mut Intake,
     gate: &G,
-    journal: &mut Journal,
+    journal: &mut JobJournal,
     disk: &mut K,
 ) -> Result<(), Halt>
     requires can_resume { CanResume run.now }
     requires journal { HasJournal run.now.job journal.old (K.bytes disk.old) }
-    requires next { HasNext run.now.job (rounds_of journal.old) intake.old }
+    requires next { HasNext run.now.job (rounds_of journal.old.tail) intake.old }
 
-    ensures ok { OnOk result (AddsRound run.now.job (rounds_of journal.old) (rounds_of journal.new) intake.old intake.new) }
-    ensures journal { OnOk result ((name : JobBytes) → IsJournalOf name run.now.job journal.old (K.bytes disk.old)
-        → IsJournalOf name run.now.job journal.new (K.bytes disk.new)) }
+    ensures ok { OnOk result (AddsRound run.now.job (rounds_of journal.old.tail) (rounds_of journal.new.tail) intake.old intake.new) }
+    ensures journal { OnOk result ((name : JobBytes) → IsJournalOf name run.now.job journal.old.tail (K.bytes disk.old)
+        → IsJournalOf name run.now.job journal.new.tail (K.bytes disk.new)) }
     ensures stands { OnOk result ((source : Source) (start left : Option (List ℕ))
-        → IsAfter run.now.job source.frame source.most (rounds_of journal.old) intake.old start left
-        → start ≡ Some (drop (last_progress (rounds_of journal.old)).bytes source.bytes) → AllStand run.now.job source (rounds_of journal.old)
-        → AllStand run.now.job source (rounds_of journal.new)) }
+        → IsAfter run.now.job source.frame source.most (rounds_of journal.old.tail) intake.old start left
+        → start ≡ Some (drop (last_progress (rounds_of journal.old.tail)).bytes source.bytes) → AllStand run.now.job source (rounds_of journal.old.tail)
+        → AllStand run.now.job source (rounds_of journal.new.tail)) }
     ensures keeps { OnOk result ((name : JobBytes) (held : List ℕ) → K.bytes disk.old ≡ Some held
-        → IsJournalOf name run.now.job journal.old (K.bytes disk.old)
-        → KeepsRounds (K.bytes disk.new) (K.may_leave disk.new) name (all_tables run.now.job.compiled) (rounds_of journal.new)) }
+        → IsJournalOf name run.now.job journal.old.tail (K.bytes disk.old)
+        → KeepsRounds (K.bytes disk.new) (K.may_leave disk.new) name (all_tables run.now.job.compiled) (rounds_of journal.new.tail)) }
 
     ensures stopped { (name : JobBytes) (source : Source) (held : List ℕ) (start left : Option (List ℕ))
-        → IsAfter run.now.job source.frame source.most (rounds_of journal.old) intake.old start left
-        → start ≡ Some (drop (last_progress (rounds_of journal.old)).bytes source.bytes)
-        → Stands name run.now.job source held (rounds_of journal.old) → Rests (K.bytes disk.old) (K.may_leave disk.old) held
-        → are_told (K.may_leave disk.old) ≡ true → IsJournalOf name run.now.job journal.old (K.bytes disk.old)
-        → (added : List RoundEntry) × LeavesRounds K.time K.left_since disk.old disk.new name run.now.job source held (rounds_of journal.old) added
-        × OnOk result (rounds_of journal.new ≡ rounds_of journal.old ++ added) }
+        → IsAfter run.now.job source.frame source.most (rounds_of journal.old.tail) intake.old start left
+        → start ≡ Some (drop (last_progress (rounds_of journal.old.tail)).bytes source.bytes)
+        → Stands name run.now.job source held (rounds_of journal.old.tail) → Rests (K.bytes disk.old) (K.may_leave disk.old) held
+        → are_told (K.may_leave disk.old) ≡ true → IsJournalOf name run.now.job journal.old.tail (K.bytes disk.old)
+        → (added : List RoundEntry) × LeavesRounds K.time K.left_since disk.old disk.new name run.now.job source held (rounds_of journal.old.tail) added
+        × OnOk result (rounds_of journal.new.tail ≡ rounds_of journal.old.tail ++ added) }
     ensures entries { (name : JobBytes) (held : List ℕ) → Rests (K.bytes disk.old) (K.may_leave disk.old) held → are_told (K.may_leave disk.old) ≡ true
-        → IsJournalOf name run.now.job journal.old (K.bytes disk.old)
-        → LeavesOnly K.time K.left_since disk.old disk.new (SpellsMore name (all_tables run.now.job.compiled) (rounds_of journal.old)) }
+        → IsJournalOf name run.now.job journal.old.tail (K.bytes disk.old)
+        → LeavesOnly K.time K.left_since disk.old disk.new (SpellsMore name (all_tables run.now.job.compiled) (rounds_of journal.old.tail)) }
+    ensures joined { OnOk result (HaveJoined journal.new.joined (all_tables run.now.job.compiled) (rounds_of journal.new.tail)) }
     ensures told { are_told (K.may_leave disk.new) ≡ are_told (K.may_leave disk.old) }
 
     ensures err { IfErr result (StopsHalt (outcome_from run.now.job intake.old.round.passed (shards_of intake.old.round))) }
@@ -233,23 +237,21 @@ fn run_next<R: Threads + Sync, G: Gate + Sync, K: Disk>(
 {
     let (tables, passed) = run_at_hand(rt, alloc, &run.job, run.workers, intake, gate)?;
     let round = round_entry(alloc, &run.job, intake, &tables, passed)?;
-    match journal.append(disk, round) {
-        Ok(()) => {
-            intake.move_on(passed);
-            Ok(())
-        }
-        Err(error) => Err(of_disk(error)),
+    if let Err(error) = journal.tail.append(disk, &round) {
+        return Err(of_disk(error));
     }
+    journal.joined.keep(round)?;
+    intake.move_on(passed);
+    Ok(())
 }
 
-/// The tables of a job whose input ends so after the rounds of its journal.
-fn ended(alloc: Global, run: &ResumedJob, journal: &Journal, ending: Ending) -> Result<Saved, Halt>
-    requires can_resume { CanResume run.now }
-    requires are { (name : JobBytes) × AreRounds name (all_tables run.now.job.compiled) (rounds_of journal.now) }
-    ensures value { EndsSo (all_tables run.now.job.compiled) (rounds_of journal.now) ending result }
+/// The tables of rounds that were joined, where the input ends so after them.
+fn ended(joined: &mut Joined, ending: Ending) -> Result<Saved, Halt>
+    requires some { (decls : List Declaration) × (rounds : List RoundEntry) × HaveJoined joined.old decls rounds }
+    ensures value { (decls : List Declaration) (rounds : List RoundEntry) → HaveJoined joined.old decls rounds → EndsSo decls rounds ending result }
 {
     match ending {
-        Ending::Whole => Ok(tables_of(alloc, &run.job, journal.rounds())?),
+        Ending::Whole => Ok(joined.tables()?),
         Ending::Damaged(byte) => Err(Halt::Stopped(Stop::Damaged(byte))),
         Ending::Limit(byte) => Err(Halt::Stopped(Stop::Limit(byte))),
     }

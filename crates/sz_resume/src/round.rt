@@ -9,27 +9,28 @@ ghost use Rattle.sz_workers.specs.Outcomes.{emitted, outcome_from};
 ghost use Rattle.sz_workers.specs.Rounds.{EndsRound, shards_of};
 ghost use Rattle.sz_workers.specs.declared.round.RoundEnd.TheVariants as ends;
 ghost use Rattle.sz_journal.specs.declared.job.JobBytes.{JobBytes};
-ghost use Rattle.sz_journal.specs.Rounds as format;
-ghost use Rattle.sz_journal.specs.Rounds.{AreRounds};
+ghost use Rattle.sz_journal.specs.declared.round.RoundEntry.{RoundEntry};
+ghost use Rattle.sz_journal.specs.Rounds.{AreRounds, last_progress};
 ghost use Rattle.sz_stream.specs.Intakes.{CanGoOn};
 ghost use Rattle.sz_stream.specs.InputRuns.{HasRound};
 ghost use Rattle.sz_resume.specs.Entries.{done_of, IsNext};
 
 use std::alloc::Global;
 use sz_attempt::Job;
-use sz_journal::{RoundEntries, RoundEntry, last_progress};
+use sz_journal::{Progress, RoundEntry};
 use sz_save::save;
 use sz_stream::{Done, Intake};
 use sz_total::Total;
 use sz_value::NoMemory;
 
-/// What of its input is done after these rounds of a job.
-pub(crate) fn done_after(rounds: &RoundEntries) -> Done
-    ensures value { result ≡ done_of (format.last_progress rounds.now) }
-    ensures can { (name : JobBytes) (decls : List Declaration) → AreRounds name decls rounds.now → CanGoOn result }
-    ensures passed { (name : JobBytes) (decls : List Declaration) → AreRounds name decls rounds.now → result.passed ≤ name.skip }
+/// What of its input is done where a job has come so far.
+pub(crate) fn done_after(progress: Progress) -> Done
+    ensures value { result ≡ done_of progress }
+    ensures can { (name : JobBytes) (decls : List Declaration) (rounds : List RoundEntry) → AreRounds name decls rounds → progress ≡ last_progress rounds
+        → CanGoOn result }
+    ensures passed { (name : JobBytes) (decls : List Declaration) (rounds : List RoundEntry) → AreRounds name decls rounds → progress ≡ last_progress rounds
+        → result.passed ≤ name.skip }
 {
-    let progress = last_progress(rounds);
     Done {
         shards: progress.shards,
         records: progress.records,

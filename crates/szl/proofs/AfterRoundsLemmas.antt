@@ -31,7 +31,7 @@ use Rattle.sz_journal.specs.declared.round.RoundEntry.{RoundEntry}
 use Rattle.sz_journal.specs.Rounds.{last_progress}
 use Rattle.sz_disk.specs.Entries.{end_of}
 use Rattle.sz_journal.specs.Journals.{Spelled, entries_of}
-use Rattle.sz_journal.specs.declared.journal.Journal.{Journal}
+use Rattle.sz_journal.specs.declared.tail.Tail.{Tail}
 use Rattle.sz_journal.specs.Journal.{rounds_of, IsOf}
 use Rattle.sz_journal.specs.Journal as journals
 use Rattle.sz_resume.specs.declared.halt.Halt.{Halt}
@@ -146,7 +146,7 @@ has_last (first ∷ round ∷ rounds) some =
     }
 
 -- the last gate of a journal of a job, by its rounds
-pub gate_of : (name : JobBytes) (journal : Journal) → IsOf name journal → 0 < (last_progress (rounds_of journal)).bytes
+pub gate_of : (name : JobBytes) (journal : Tail) → IsOf name journal → 0 < (last_progress (rounds_of journal)).bytes
     → journals.last_gate journal ≡ last_gate name (rounds_of journal)
 gate_of name journal is some =
     let l = has_last (rounds_of journal) some in
@@ -296,7 +296,7 @@ module _ {F : Type 0} (the_files : files.Ghosts F) (s : RunSettings) (job : Job)
         opened = opened;
       }
 
-  module _ (low : 1 ≤ s.shard) (j : Journal) (rounds_are : rounds_of j ≡ rounds) where
+  module _ (low : 1 ≤ s.shard) (j : Tail) (rounds_are : rounds_of j ≡ rounds) where
     -- the shards of an input that is told
     ends_of : (r : Result SavedState Halt) (bytes : List ℕ) (cut : Cut) → RunsSource job j (source_of s bytes) r → IsCutInto s.frame bytes cut
         → EndsJob job j (length bytes) (length cut.records) cut.ending (run_end cut) r

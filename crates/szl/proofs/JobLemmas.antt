@@ -25,7 +25,7 @@ use Rattle.sz_journal.specs.Rounds.{last_progress, AreRounds}
 use Rattle.sz_journal.specs.Journals.{Standing, Empty, OtherJob, DamagedAt, Spelled, Spells}
 use Rattle.sz_journal.specs.Journals as stand
 use Rattle.sz_journal.specs.Laws.{IsOneStanding}
-use Rattle.sz_journal.specs.declared.journal.Journal.{Journal}
+use Rattle.sz_journal.specs.declared.tail.Tail.{Tail}
 use Rattle.sz_journal.specs.Journal.{rounds_of, IsOf, KeepsRounds}
 use Rattle.sz_journal.specs.Opening.{FitsAnswer, FitsError, IsKept}
 use Rattle.sz_journal.specs.declared.error.OpenError.{OpenError}
@@ -53,7 +53,7 @@ use Rattle.szl.proofs.OpeningLemmas.{holds_or}
 use Rattle.szl.proofs.OpenedLemmas.{opened_none}
 use Rattle.szl.proofs.SaysLemmas.{says}
 use Rattle.szl.proofs.AfterRoundsLemmas.{shown_of, opens_both, not_short}
-use Rattle.szl.proofs.KeepLemmas.{found_doubled, left_single, stands_single, kept_left, same_rounds, found_now, left_since_opened}
+use Rattle.szl.proofs.KeepLemmas.{left_now, found_doubled, left_single, stands_single, kept_left, same_rounds, found_now, left_since_opened}
 
 -- what may be told, by what it tells
 pub all_told : (told : Option (List ℕ)) (P : List ℕ → Type 0) → ((bytes : List ℕ) → told ≡ Some bytes → P bytes) → IfSome told P
@@ -183,7 +183,7 @@ record IsOpened (name : JobBytes) (decls : List Declaration) (journal : Option (
   stands : IfSome journal (λ held. stand.Stands name decls held standing)
   same : (size : ℕ) (rest : Answer) → unless_journal name (Spelled rounds) size rest ≡ unless_journal name standing size rest
 
-is_opened : (name : JobBytes) (decls : List Declaration) (journal : Option (List ℕ)) (j : Journal)
+is_opened : (name : JobBytes) (decls : List Declaration) (journal : Option (List ℕ)) (j : Tail)
     → ((held : List ℕ) → journal ≡ Some held → FitsAnswer name decls held (Ok j)) → IsOpened name decls journal (rounds_of j)
 is_opened name decls None j fits = record { standing = Spelled (rounds_of j); stands = tt; same = λ size rest. refl }
 is_opened name decls (Some held) j fits = by (fits held refl)
@@ -199,7 +199,7 @@ is_opened name decls (Some held) j fits = by (fits held refl)
     }
 
 module _ (law : IsOneStanding) (s : RunSettings) (low : 1 ≤ s.shard) (no_save : s.save ≡ false) (program : Marked) (slots : List Slot)
-    (begun : statics program s.budget ≡ Done slots) (name : JobBytes) (few : name.skip < 2 ^ 32) (twice : List ℕ) (j : Journal) where
+    (begun : statics program s.budget ≡ Done slots) (name : JobBytes) (few : name.skip < 2 ^ 32) (twice : List ℕ) (j : Tail) where
   abbrev plain : Job
   plain = job_of program slots s
 
@@ -262,26 +262,21 @@ module _ (law : IsOneStanding) (s : RunSettings) (low : 1 ≤ s.shard) (no_save 
       → (k : KeepsRounds (the_disk.bytes mid) (the_disk.may_leave mid) name (all_tables program) (rounds_of j))
       → are_told (the_disk.may_leave mid) ≡ are_told (the_disk.may_leave disk)
       → (are_told (the_disk.may_leave disk) ≡ true
-      → LeavesOnly the_disk.time the_disk.left_since disk mid (IsKept name (all_tables program) held))
+      → LeavesOnly the_disk.time the_disk.left_since disk mid (IsKept name (all_tables program) (the_disk.may_leave disk) held))
       → KeepsJob the_disk name run_job (source_of s input) k.held (rounds_of j) st mid new
       → KeepsJob the_disk name plain (source_of s input) held before st disk new
   keeps_journal the_disk input held before st disk mid new found fits k told opened later = record {
     added = later.added;
     small = subst (λ rs. AreSmall (last_progress rs) later.added) same later.small;
     stopped = λ is.
-        let l = later.stopped (told ∙ is) in
-        record {
-          found = found;
-          small = subst (λ rs. AreSmall (last_progress rs) later.added) same l.small;
-          leaves = leaves_both the_disk.time the_disk.left_since disk mid new (IsLeft name plain (source_of s input) held before later.added)
-              (leaves_if the_disk.time the_disk.left_since disk mid (IsKept name (all_tables program) held)
-              (IsLeft name plain (source_of s input) held before later.added)
-              (λ image kept. more_left image (kept_left law s plain name few low input held before found image kept)) (opened is))
-              (leaves_if the_disk.time the_disk.left_since mid new (IsLeft name run_job (source_of s input) k.held (rounds_of j) later.added)
-              (IsLeft name plain (source_of s input) held before later.added)
-              (λ image left. left_since_opened law s plain name few low input held j (the_disk.bytes mid) (the_disk.may_leave mid) k fits before found
-              later.added image (left_single plain twice (source_of s input) name k.held image (rounds_of j) later.added left)) l.leaves);
-        };
+        leaves_both the_disk.time the_disk.left_since disk mid new Left
+        (leaves_if the_disk.time the_disk.left_since disk mid (IsKept name (all_tables program) (the_disk.may_leave disk) held) Left
+        (kept_left law s plain name few low input held before found (the_disk.may_leave disk) later.added) (opened is))
+        (leaves_if the_disk.time the_disk.left_since mid new
+        (IsLeftOr (the_disk.may_leave mid) name run_job (source_of s input) k.held (rounds_of j) later.added) Left
+        (λ image left. inr (left_since_opened law s plain name few low input held j (the_disk.bytes mid) (the_disk.may_leave mid) k fits before found
+        later.added image (left_single plain twice (source_of s input) name k.held image (rounds_of j) later.added (now_left (told ∙ is) image left))))
+        (later.stopped (told ∙ is)));
     ended = λ is.
         let h = later.ended is in
         record {
@@ -295,15 +290,19 @@ module _ (law : IsOneStanding) (s : RunSettings) (low : 1 ≤ s.shard) (no_save 
       same : rounds_of j ≡ before
       same = same_rounds law s plain name few low input held j (the_disk.bytes mid) (the_disk.may_leave mid) k fits before found
 
-      more_left : (image : List ℕ) → IsLeft name plain (source_of s input) held before [] image
-          → IsLeft name plain (source_of s input) held before later.added image
-      more_left image (inl none) = inl none
-      more_left image (inr l) = by l.0 l.1 l.2
-        where
-          by : (some : List RoundEntry) → AreFirst some [] → by_rounds.Stands name plain (source_of s input) image (before ++ some)
-              → IsLeft name plain (source_of s input) held before later.added image
-          by [] first stands = inr ([], record { more = later.added; is = refl }, stands)
-          by (round ∷ rounds) first stands = let e = first.is in absurd (cc)
+      abbrev Left : List ℕ → Type 0
+      Left image = IsLeftOr (the_disk.may_leave disk) name plain (source_of s input) held before later.added image
+
+      -- once the journal is open, a crash leaves what a read gives
+      now_left : are_told (the_disk.may_leave mid) ≡ true → (image : List ℕ)
+          → IsLeftOr (the_disk.may_leave mid) name run_job (source_of s input) k.held (rounds_of j) later.added image
+          → IsLeft name run_job (source_of s input) k.held (rounds_of j) later.added image
+      now_left is image (inr left) = left
+      now_left is image (inl left) =
+          left_now name run_job (source_of s input) k.held (rounds_of j)
+          (found_doubled plain twice (source_of s input) name k.held (rounds_of j)
+          (found_now law s plain name few low input held j (the_disk.bytes mid) (the_disk.may_leave mid) k fits before found))
+          later.added image (the_image (the_disk.may_leave mid) k.held image is k.rests.only left)
 
   -- the same for the job as it is run
   pub job_keeps : {K : Type 0} (the_disk : disks.Ghosts K) (job : Job) (others : List Slot) → statics program s.budget ≡ Done others
@@ -312,7 +311,7 @@ module _ (law : IsOneStanding) (s : RunSettings) (low : 1 ≤ s.shard) (no_save 
       → (k : KeepsRounds (the_disk.bytes mid) (the_disk.may_leave mid) name (all_tables program) (rounds_of j))
       → are_told (the_disk.may_leave mid) ≡ are_told (the_disk.may_leave disk)
       → (are_told (the_disk.may_leave disk) ≡ true
-      → LeavesOnly the_disk.time the_disk.left_since disk mid (IsKept name (all_tables program) held))
+      → LeavesOnly the_disk.time the_disk.left_since disk mid (IsKept name (all_tables program) (the_disk.may_leave disk) held))
       → job.twice ≡ twice
       → (IsFound name job (source_of s input) k.held (rounds_of j) → KeepsJob the_disk name job (source_of s input) k.held (rounds_of j) st mid new)
       → KeepsJob the_disk name plain (source_of s input) held before st disk new
@@ -330,23 +329,20 @@ pub keeps_unopened : {K : Type 0} → IsOneStanding → (s : RunSettings) → 1 
     → name.skip < 2 ^ 32 → (the_disk : disks.Ghosts K) (input held : List ℕ) (before : List RoundEntry) (st : Status) → st ≢ status.Done
     → (disk mid : K) → IsFound name (job_of program slots s) (source_of s input) held before
     → (are_told (the_disk.may_leave disk) ≡ true
-    → LeavesOnly the_disk.time the_disk.left_since disk mid (IsKept name (all_tables program) held))
+    → LeavesOnly the_disk.time the_disk.left_since disk mid (IsKept name (all_tables program) (the_disk.may_leave disk) held))
     → KeepsJob the_disk name (job_of program slots s) (source_of s input) held before st disk mid
 keeps_unopened law s low program slots name few the_disk input held before st unfinished disk mid found leaves = record {
   added = [];
   small = tt;
-  stopped = λ is. record {
-    found = found;
-    small = tt;
-    leaves = leaves_if the_disk.time the_disk.left_since disk mid (IsKept name (all_tables program) held)
-        (IsLeft name (job_of program slots s) (source_of s input) held before [])
-        (λ image kept. kept_left law s (job_of program slots s) name few low input held before found image kept) (leaves is);
-  };
+  stopped = λ is.
+      leaves_if the_disk.time the_disk.left_since disk mid (IsKept name (all_tables program) (the_disk.may_leave disk) held)
+      (IsLeftOr (the_disk.may_leave disk) name (job_of program slots s) (source_of s input) held before [])
+      (kept_left law s (job_of program slots s) name few low input held before found (the_disk.may_leave disk) []) (leaves is);
   ended = λ is. absurd (unfinished is);
 }
 
 -- an opened journal is one of the job
-pub is_journal : (name : JobBytes) (job : Job) (journal : Journal) (old now : Option (List ℕ)) (may_leave : Images) → IsOf name journal
+pub is_journal : (name : JobBytes) (job : Job) (journal : Tail) (old now : Option (List ℕ)) (may_leave : Images) → IsOf name journal
     → name.budget ≡ job.budget → name.skip ≡ job.skip → (old ≡ None → now ≡ None)
     → ((held : List ℕ) → old ≡ Some held → KeepsRounds now may_leave name (all_tables job.compiled) (rounds_of journal))
     → AreRounds name (all_tables job.compiled) (rounds_of journal) → IsJournalOf name job journal now

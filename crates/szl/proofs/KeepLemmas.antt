@@ -18,7 +18,7 @@ use Rattle.sz_journal.specs.declared.round.RoundEntry.{RoundEntry}
 use Rattle.sz_journal.specs.Rounds.{progress_of, last_progress}
 use Rattle.sz_journal.specs.Journals.{Spells, Empty, Spelled}
 use Rattle.sz_journal.specs.Laws.{IsOneStanding}
-use Rattle.sz_journal.specs.declared.journal.Journal.{Journal}
+use Rattle.sz_journal.specs.declared.tail.Tail.{Tail}
 use Rattle.sz_journal.specs.Journal.{rounds_of, KeepsRounds}
 use Rattle.sz_journal.specs.Opening.{FitsAnswer, IsKept}
 use Rattle.sz_resume.specs.Standing.{Source, IsRoundOf, AreRoundsOf, StandsFor, IsFound}
@@ -30,7 +30,7 @@ use Rattle.szl.specs.declared.failure.Failure.TheVariants as failure
 use Rattle.szl.specs.Failing.{status_of}
 use Rattle.szl.specs.declared.status.Status.{Status}
 use Rattle.szl.specs.declared.status.Status.TheVariants as status
-use Rattle.szl.specs.ResumePromise.{IsNameFor, KeepsEntries, KeepsJob, LosesNothing}
+use Rattle.szl.specs.ResumePromise.{IsLeftOr, IsNameFor, KeepsEntries, KeepsJob, LosesNothing}
 use Rattle.szl.specs.Resuming.{kept_job, source_of}
 use Rattle.szl.specs.Shards.{shard_sizes}
 use Rattle.szl.proofs.AnswerLemmas.{cut_of, same_outcome}
@@ -129,13 +129,13 @@ module _ (job : Job) (twice : List ℕ) (source : Source) where
 
 module _ (name : JobBytes) (job : Job) (source : Source) where
   -- what was found is left
-  pub left_now : (held : List ℕ) (before : List RoundEntry) → IsFound name job source held before → (image : List ℕ) → image ≡ held
-      → IsLeft name job source held before [] image
-  left_now held before (inl none) image is = inl (none.0, subst IsEmpty (sym is) none.0)
-  left_now held before (inr st) image is =
+  pub left_now : (held : List ℕ) (before : List RoundEntry) → IsFound name job source held before → (added : List RoundEntry) (image : List ℕ)
+      → image ≡ held → IsLeft name job source held before added image
+  left_now held before (inl none) added image is = inl (none.0, subst IsEmpty (sym is) none.0)
+  left_now held before (inr st) added image is =
       inr (
         [],
-        record { more = []; is = refl },
+        record { more = added; is = refl },
         subst (λ (b : List ℕ). by_rounds.Stands name job source b (before ++ [])) (sym is)
             (subst (λ rs. by_rounds.Stands name job source held rs) (sym (append-nil before)) st),
       )
@@ -143,16 +143,13 @@ module _ (name : JobBytes) (job : Job) (source : Source) where
   module _ {K : Type 0} (the_disk : disks.Ghosts K) (held : List ℕ) (before : List RoundEntry) (found : IsFound name job source held before)
       (st : Status) (unfinished : st ≢ status.Done) where
     pub keeps_none : (disk : K) → AreAmong (the_disk.left_since disk (the_disk.time disk)) (the_disk.may_leave disk)
-        → Rests (the_disk.bytes disk) (the_disk.may_leave disk) held → KeepsJob the_disk name job source held before st disk disk
-    keeps_none disk now rests = record {
+        → KeepsJob the_disk name job source held before st disk disk
+    keeps_none disk now = record {
       added = [];
       small = tt;
-      stopped = λ told. record {
-        found = found;
-        small = tt;
-        leaves = leaves_none the_disk.may_leave the_disk.time the_disk.left_since the_disk.faults disk (IsLeft name job source held before []) now
-            (λ image left. left_now held before found image (the_image (the_disk.may_leave disk) held image told rests.only left));
-      };
+      stopped = λ told.
+          leaves_none the_disk.may_leave the_disk.time the_disk.left_since the_disk.faults disk
+          (IsLeftOr (the_disk.may_leave disk) name job source held before []) now (λ image left. inl left);
       ended = λ is. absurd (unfinished is);
     }
 
@@ -161,13 +158,19 @@ module _ (name : JobBytes) (job : Job) (source : Source) where
     Left AreAll = are_told (the_disk.may_leave disk) ≡ true → (added : List RoundEntry)
         × LeavesRounds the_disk.time the_disk.left_since disk new name job source held before added × AreAll added
 
+    or_left : (added : List RoundEntry) → LeavesRounds the_disk.time the_disk.left_since disk new name job source held before added
+        → LeavesOnly the_disk.time the_disk.left_since disk new (IsLeftOr (the_disk.may_leave disk) name job source held before added)
+    or_left added l =
+        leaves_if the_disk.time the_disk.left_since disk new (IsLeft name job source held before added)
+        (IsLeftOr (the_disk.may_leave disk) name job source held before added) (λ image left. inr left) l.leaves
+
     -- a job that didn't come to its end
     pub keeps_stopped : st ≢ status.Done → Left (λ added. Unit {0}) → KeepsJob the_disk name job source held before st disk new
     keeps_stopped unfinished stopped = by (are_told (the_disk.may_leave disk)) refl
       where
         by : (b : Bool) → are_told (the_disk.may_leave disk) ≡ b → KeepsJob the_disk name job source held before st disk new
         by true t =
-            record { added = (stopped t).0; small = (stopped t).1.small; stopped = λ told. (stopped t).1; ended = λ is. absurd (unfinished is) }
+            record { added = (stopped t).0; small = (stopped t).1.small; stopped = λ told. or_left (stopped t).0 (stopped t).1; ended = λ is. absurd (unfinished is) }
         by false t = record { added = []; small = tt; stopped = λ told. absurd (true≢false (sym told ∙ t)); ended = λ is. absurd (unfinished is) }
 
     -- one that has these rounds at its end
@@ -182,7 +185,12 @@ module _ (name : JobBytes) (job : Job) (source : Source) where
 
         by : (b : Bool) → are_told (the_disk.may_leave disk) ≡ b → KeepsJob the_disk name job source held before st disk new
         by true t =
-            record { added = (stopped t).0; small = (stopped t).1.small; stopped = λ told. (stopped t).1; ended = λ is. all (stopped t).0 (stopped t).2 }
+            record {
+              added = (stopped t).0;
+              small = (stopped t).1.small;
+              stopped = λ told. or_left (stopped t).0 (stopped t).1;
+              ended = λ is. all (stopped t).0 (stopped t).2;
+            }
         by false t =
             record { added = grows.0; small = grows.2; stopped = λ told. absurd (true≢false (sym told ∙ t)); ended = λ is. all grows.0 grows.1 }
 
@@ -214,19 +222,19 @@ module _ (law : IsOneStanding) (s : RunSettings) (job : Job) (name : JobBytes) (
         )
 
     -- while it is opened
-    pub kept_left : (before : List RoundEntry) → IsFound name job (source_of s input) held before → (image : List ℕ) → IsKept name decls held image
-        → IsLeft name job (source_of s input) held before [] image
-    kept_left before found image (inl is) = left_now name job (source_of s input) held before found image is
-    kept_left before found image (inr (empty, inl none)) = inl (empty, none)
-    kept_left before (inl none) image (inr (empty, inr spells)) =
-        inr (
+    pub kept_left : (before : List RoundEntry) → IsFound name job (source_of s input) held before → (images : Images) (added : List RoundEntry) (image : List ℕ)
+        → IsKept name decls images held image → IsLeftOr images name job (source_of s input) held before added image
+    kept_left before found images added image (inl left) = inl left
+    kept_left before found images added image (inr (empty, inl none)) = inr (inl (empty, none))
+    kept_left before (inl none) images added image (inr (empty, inr spells)) =
+        inr (inr (
           [],
-          record { more = []; is = refl },
+          record { more = added; is = refl },
           subst (λ rs. by_rounds.Stands name job (source_of s input) image (rs ++ [])) (sym none.1) (stands_begun image spells),
-        )
-    kept_left before (inr st) image (inr (empty, inr spells)) = absurd (not_both before empty st.1.spells)
+        ))
+    kept_left before (inr st) images added image (inr (empty, inr spells)) = absurd (not_both before empty st.1.spells)
 
-    module _ (journal : Journal) (bytes : Option (List ℕ)) (may_leave : Images) (keeps : KeepsRounds bytes may_leave name decls (rounds_of journal))
+    module _ (journal : Tail) (bytes : Option (List ℕ)) (may_leave : Images) (keeps : KeepsRounds bytes may_leave name decls (rounds_of journal))
         (fits : FitsAnswer name decls held (Ok journal)) (before : List RoundEntry) (found : IsFound name job (source_of s input) held before) where
       -- it has the rounds that were found
       pub same_rounds : rounds_of journal ≡ before
@@ -294,18 +302,19 @@ module _ {K : Type 0} (the_disk : disks.Ghosts K) where
   -- the disk isn't called
   pub entries_untouched : (IsName : JobBytes → Type 0) (disk : K) → AreAmong (the_disk.left_since disk (the_disk.time disk)) (the_disk.may_leave disk)
       → KeepsEntries the_disk IsName disk disk
-  entries_untouched IsName disk now held rests told =
-      leaves_none the_disk.may_leave the_disk.time the_disk.left_since the_disk.faults disk (LosesNothing IsName held) now
-      (λ image left. inl (the_image (the_disk.may_leave disk) held image told rests.only left))
+  entries_untouched IsName disk now held read told =
+      leaves_none the_disk.may_leave the_disk.time the_disk.left_since the_disk.faults disk (LosesNothing IsName (the_disk.may_leave disk) held) now
+      (λ image left. inl left)
 
   -- of one name, and so of each that it may be
   pub entries_named : (s : RunSettings) (name : JobBytes) (program proto : List ℕ) → name ≡ kept_job s program proto → (disk new : K)
       → KeepsEntries the_disk (λ other. other ≡ name) disk new → KeepsEntries the_disk (IsNameFor s) disk new
-  entries_named s name program proto is disk new keeps held rests told =
-      leaves_if the_disk.time the_disk.left_since disk new (LosesNothing (λ other. other ≡ name) held) (LosesNothing (IsNameFor s) held) by
-      (keeps held rests told)
+  entries_named s name program proto is disk new keeps held read told =
+      leaves_if the_disk.time the_disk.left_since disk new (LosesNothing (λ other. other ≡ name) (the_disk.may_leave disk) held)
+      (LosesNothing (IsNameFor s) (the_disk.may_leave disk) held) by (keeps held read told)
     where
-      by : (image : List ℕ) → LosesNothing (λ other. other ≡ name) held image → LosesNothing (IsNameFor s) held image
+      by : (image : List ℕ) → LosesNothing (λ other. other ≡ name) (the_disk.may_leave disk) held image
+          → LosesNothing (IsNameFor s) (the_disk.may_leave disk) held image
       by image (inl same) = inl same
       by image (inr (inl none)) = inr (inl none)
       by image (inr (inr on)) =
@@ -320,9 +329,12 @@ module _ {K : Type 0} (the_disk : disks.Ghosts K) where
           }))
 
   module _ (name : JobBytes) (decls : List Declaration) (disk mid : K)
-      (opened : (held : List ℕ) → Rests (the_disk.bytes disk) (the_disk.may_leave disk) held → are_told (the_disk.may_leave disk) ≡ true
-      → LeavesOnly the_disk.time the_disk.left_since disk mid (IsKept name decls held)) where
-    kept_loses : (held image : List ℕ) → IsKept name decls held image → LosesNothing (λ other. other ≡ name) held image
+      (opened : (held : List ℕ) → the_disk.bytes disk ≡ Some held → are_told (the_disk.may_leave disk) ≡ true
+      → LeavesOnly the_disk.time the_disk.left_since disk mid (IsKept name decls (the_disk.may_leave disk) held)) where
+    abbrev Loses : List ℕ → List ℕ → Type 0
+    Loses held image = LosesNothing (λ other. other ≡ name) (the_disk.may_leave disk) held image
+
+    kept_loses : (held image : List ℕ) → IsKept name decls (the_disk.may_leave disk) held image → Loses held image
     kept_loses held image (inl same) = inl same
     kept_loses held image (inr (empty, inl none)) = inr (inl (empty, none))
     kept_loses held image (inr (empty, inr spells)) =
@@ -330,29 +342,29 @@ module _ {K : Type 0} (the_disk : disks.Ghosts K) where
 
     -- the journal was opened, or it wasn't
     pub entries_opened : KeepsEntries the_disk (λ other. other ≡ name) disk mid
-    entries_opened held rests told =
-        leaves_if the_disk.time the_disk.left_since disk mid (IsKept name decls held) (LosesNothing (λ other. other ≡ name) held) (kept_loses held)
-        (opened held rests told)
+    entries_opened held read told =
+        leaves_if the_disk.time the_disk.left_since disk mid (IsKept name decls (the_disk.may_leave disk) held) (Loses held) (kept_loses held)
+        (opened held read told)
 
     -- and then rounds were appended
-    pub entries_after : (journal : Journal) (new : K)
+    pub entries_after : (journal : Tail) (new : K)
         → ((held : List ℕ) → the_disk.bytes disk ≡ Some held → FitsAnswer name decls held (Ok journal))
         → ((held : List ℕ) → the_disk.bytes disk ≡ Some held → KeepsRounds (the_disk.bytes mid) (the_disk.may_leave mid) name decls (rounds_of journal))
         → are_told (the_disk.may_leave mid) ≡ are_told (the_disk.may_leave disk)
         → ((held : List ℕ) → Rests (the_disk.bytes mid) (the_disk.may_leave mid) held → are_told (the_disk.may_leave mid) ≡ true
         → LeavesOnly the_disk.time the_disk.left_since mid new (SpellsMore name decls (rounds_of journal)))
         → KeepsEntries the_disk (λ other. other ≡ name) disk new
-    entries_after journal new fits keeps same later held rests told =
-        let k = keeps held rests.read in
-        leaves_both the_disk.time the_disk.left_since disk mid new (LosesNothing (λ other. other ≡ name) held) (entries_opened held rests told)
-        (leaves_if the_disk.time the_disk.left_since mid new (SpellsMore name decls (rounds_of journal)) (LosesNothing (λ other. other ≡ name) held)
+    entries_after journal new fits keeps same later held read told =
+        let k = keeps held read in
+        leaves_both the_disk.time the_disk.left_since disk mid new (Loses held) (entries_opened held read told)
+        (leaves_if the_disk.time the_disk.left_since mid new (SpellsMore name decls (rounds_of journal)) (Loses held)
         (λ image on. inr (inr (record {
           name = name;
           is_name = refl;
           decls = decls;
           before = rounds_of journal;
           more = on.0;
-          was = by (fits held rests.read);
+          was = by (fits held read);
           is = on.1;
         }))) (later k.held k.rests (same ∙ told)))
       where

@@ -270,7 +270,7 @@ module _ {K : Type 0} (the_disk : disks.Ghosts K) (s : RunSettings) (types : Lis
       untouched = λ none. refl;
       entries = entries_untouched the_disk (λ other. other ≡ name) disk now;
       found = λ input held t rests program slots is begun before found.
-          keeps_none name (job_of program slots s) (source_of s input) the_disk held before found st unfinished disk now rests;
+          keeps_none name (job_of program slots s) (source_of s input) the_disk held before found st unfinished disk now;
     }
 
     -- what the program's job leaves is what the text's does

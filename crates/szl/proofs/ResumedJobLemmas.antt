@@ -4,7 +4,7 @@ use Rattle.std.specs.Prelude.{Result}
 use Rattle.sz_disk.specs.declared.disk.Disk as disks
 use Rattle.sz_save_format.specs.Saved.{SavedState}
 use Rattle.sz_journal.specs.declared.job.JobBytes.{JobBytes}
-use Rattle.sz_journal.specs.declared.journal.Journal.{Journal}
+use Rattle.sz_journal.specs.declared.tail.Tail.{Tail}
 use Rattle.sz_journal.specs.declared.round.RoundEntry.{RoundEntry}
 use Rattle.sz_journal.specs.Journal.{rounds_of}
 use Rattle.sz_words.specs.declared.settings.RunSettings.{RunSettings}
@@ -32,7 +32,7 @@ module _ (s : RunSettings) (run : ResumedJob) (read_as : IsReadAs s run) where
   found_as name held rounds input found = subst (λ (source : Source). IsFound name run.job source held rounds) (sym (same input)) found
 
   -- what running it gives
-  pub runs_as : (name : JobBytes) (j : Journal) (told journal : Option (List ℕ)) (answer : Result SavedState Halt)
+  pub runs_as : (name : JobBytes) (j : Tail) (told journal : Option (List ℕ)) (answer : Result SavedState Halt)
       → ((bytes held : List ℕ) → told ≡ Some bytes → journal ≡ Some held → IsFound name run.job (source_in run bytes) held (rounds_of j)
       → RunsSource run.job j (source_in run bytes) answer)
       → (bytes held : List ℕ) → told ≡ Some bytes → journal ≡ Some held → IsFound name run.job (source_of s bytes) held (rounds_of j)

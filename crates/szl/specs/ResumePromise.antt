@@ -3,7 +3,7 @@ use Rattle.std.specs.Prelude.{◌≡◌, ◌⊎◌, ℕ, ⊤, Bool, true, List, 
 use Rattle.sz_io.specs.declared.files.Files as files
 use Rattle.sz_io.specs.declared.sink.Sink as sink
 use Rattle.sz_types.specs.Tables.{Declaration}
-use Rattle.sz_disk.specs.Crashes.{are_told}
+use Rattle.sz_disk.specs.Crashes.{Images, MayBe, are_told}
 use Rattle.sz_disk.specs.declared.disk.Disk as disks
 use Rattle.sz_mean.specs.Marked.{Marked, all_tables}
 use Rattle.sz_mean.specs.Programs.{statics}
@@ -21,10 +21,10 @@ use Rattle.sz_journal.specs.declared.job.JobBytes.{JobBytes}
 use Rattle.sz_journal.specs.declared.round.RoundEntry.{RoundEntry}
 use Rattle.sz_journal.specs.Rounds.{last_progress}
 use Rattle.sz_journal.specs.Journals.{Standing, Stands, Spells}
-use Rattle.sz_disk.specs.Crashing.{Rests, LeavesOnly}
+use Rattle.sz_disk.specs.Crashing.{LeavesOnly}
 use Rattle.sz_disk.specs.Entries.{IsEmpty}
 use Rattle.sz_resume.specs.Standing.{Source, IsFound}
-use Rattle.sz_resume.specs.Stops.{AreSmall, LeavesRounds, HoldsAll}
+use Rattle.sz_resume.specs.Stops.{IsLeft, AreSmall, HoldsAll}
 use Rattle.szl.specs.declared.status.Status.{Status}
 use Rattle.szl.specs.declared.status.Status.TheVariants as status
 use Rattle.szl.specs.Answers.{Answer, disk_failed_line}
@@ -150,20 +150,26 @@ pub record CompletesJob {F O E K : Type 0} (the_files : files.Ghosts F) (the_out
   pub means : MeansJob the_files the_out the_err the_disk s st files new_files out new_out err new_err disk
   pub status_is : (st ≡ status.NoMemory) ⊎ (st ≡ means.outcome.status)
 
--- What a crash leaves of the journal of a job, which is one that calls of the job may find, with these rounds: at any moment of the call, and where it
--- came to its end. Each round that the call adds has at most 4,096 shards
+-- it might have been left before the call, or may be left while the job adds these rounds
+abbrev pub IsLeftOr : Images → JobBytes → Job → Source → List ℕ → (before added : List RoundEntry) → List ℕ → Type 0
+IsLeftOr images name job source held before added image = MayBe images image ⊎ IsLeft name job source held before added image
+
+-- What a crash leaves of the journal of a job, of which a read gives one that calls of the job may find, with these rounds. At any moment of the call it is
+-- what a crash before might have left, or the journal with the first of the rounds that the call adds; and where the call came to its end, it is the whole
+-- journal. Each round that is added has at most 4,096 shards
 pub record KeepsJob {K : Type 0} (the_disk : disks.Ghosts K) (name : JobBytes) (job : Job) (source : Source) (held : List ℕ) (before : List RoundEntry)
     (st : Status) (disk new_disk : K) : Type 0 where
   pub added : List RoundEntry
   pub small : AreSmall (last_progress before) added
-  pub stopped : are_told (the_disk.may_leave disk) ≡ true → LeavesRounds the_disk.time the_disk.left_since disk new_disk name job source held before added
+  pub stopped : are_told (the_disk.may_leave disk) ≡ true
+      → LeavesOnly the_disk.time the_disk.left_since disk new_disk (IsLeftOr (the_disk.may_leave disk) name job source held before added)
   pub ended : st ≡ status.Done → HoldsAll (the_disk.bytes new_disk) (the_disk.may_leave new_disk) name job source (before ++ added)
 
 -- the same of each job with this name, over an input and a disk that tell their bytes
 abbrev pub KeepsFound : {K : Type 0} → disks.Ghosts K → RunSettings → ((Marked → List Slot → Type 0) → Type 0) → JobBytes → Option (List ℕ) → Status → K
     → K → Type 0
 KeepsFound the_disk s IfSo name told status disk new_disk =
-    (input held : List ℕ) → told ≡ Some input → Rests (the_disk.bytes disk) (the_disk.may_leave disk) held
+    (input held : List ℕ) → told ≡ Some input → the_disk.bytes disk ≡ Some held
     → IfSo (λ program slots. (before : List RoundEntry) → IsFound name (job_of program slots s) (source_of s input) held before
     → KeepsJob the_disk name (job_of program slots s) (source_of s input) held before status disk new_disk)
 
@@ -178,17 +184,17 @@ pub record SpellsOn (IsName : JobBytes → Type 0) (held image : List ℕ) : Typ
   pub was : (IsEmpty held × (before ≡ [])) ⊎ Spells name decls held before
   pub is : Spells name decls image (before ++ more)
 
--- No round is lost: what is left is what was held; or neither has an entry; or it spells a job with the rounds that were there, and others after them.
--- What the others stand for isn't said here
-abbrev pub LosesNothing : (JobBytes → Type 0) → (held image : List ℕ) → Type 0
-LosesNothing IsName held image = (image ≡ held) ⊎ ((IsEmpty held × IsEmpty image) ⊎ SpellsOn IsName held image)
+-- No round is lost: what is left might have been left before; or neither this nor what was held has an entry; or it spells a job with the rounds that were
+-- held, and others after them. What the others stand for isn't said here
+abbrev pub LosesNothing : (JobBytes → Type 0) → Images → (held image : List ℕ) → Type 0
+LosesNothing IsName before held image = MayBe before image ⊎ ((IsEmpty held × IsEmpty image) ⊎ SpellsOn IsName held image)
 
--- Whatever a crash during the call might have left of the disk loses nothing of what it held, whatever the files hold: where before the call a crash would
--- have left what a read gives, and that is told
+-- Whatever a crash during the call might have left of the disk loses nothing of what it held, whatever the files hold, where that is told. What a crash before
+-- the call might have left is what a read gives, unless a call before this one ended while a write wasn't synced
 abbrev pub KeepsEntries : {K : Type 0} → disks.Ghosts K → (JobBytes → Type 0) → K → K → Type 0
 KeepsEntries the_disk IsName disk new_disk =
-    (held : List ℕ) → Rests (the_disk.bytes disk) (the_disk.may_leave disk) held → are_told (the_disk.may_leave disk) ≡ true
-    → LeavesOnly the_disk.time the_disk.left_since disk new_disk (LosesNothing IsName held)
+    (held : List ℕ) → the_disk.bytes disk ≡ Some held → are_told (the_disk.may_leave disk) ≡ true
+    → LeavesOnly the_disk.time the_disk.left_since disk new_disk (LosesNothing IsName (the_disk.may_leave disk) held)
 
 -- What a call leaves of the disk: it isn't called where there is no program that can be run, with statics; a journal that isn't empty and isn't one of a
 -- job with this name is left as it is; and what is kept of one that calls of the job may find

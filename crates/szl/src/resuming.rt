@@ -15,7 +15,8 @@ ghost use Rattle.sz_tabs.specs.Data.{EmitDatum};
 ghost use Rattle.sz_types.specs.Tables.{Declaration};
 ghost use Rattle.sz_protofile_types.specs.Sound.{AreSound};
 ghost use Rattle.sz_resume.specs.Standing.{IsFound};
-ghost use Rattle.sz_resume.specs.Runs.{IsJournalOf, HasJournal};
+ghost use Rattle.sz_resume.specs.Runs.{IsJournalOf};
+ghost use Rattle.sz_resume.specs.Joining.{HasJournal};
 ghost use Rattle.sz_resume.specs.Resumable.{CanResume};
 ghost use Rattle.sz_resume.specs.Stops.{SpellsMore};
 ghost use Rattle.sz_words.specs.Bounds.{HasBounds};
@@ -45,11 +46,11 @@ use std::thread::Threads;
 use sz_core::Program;
 use sz_disk::Disk;
 use sz_io::{Files, Gate};
-use sz_journal::{JobBytes, Journal, Numbers, Triple, Triples, one_standing, open_journal};
+use sz_journal::{JobBytes, Numbers, Triple, Triples, one_standing, open_rounds};
 use sz_list::Items;
 use sz_merge::saved_runs_join;
 use sz_print::text_rows;
-use sz_resume::{ResumedJob, resume_file};
+use sz_resume::{JobJournal, Joined, ResumedJob, resume_file};
 use sz_save::Saved;
 use sz_value::{NoMemory, Octets};
 use sz_words::{Kill, RunSettings, Settings, read_words};
@@ -234,7 +235,10 @@ fn resume_program<R: Threads + Sync, F: Files, G: Gate + Sync, K: Disk>(
 {
     one_standing();
     let run = resumed_job(alloc, program, settings)?;
-    let mut journal = open_journal(alloc, disk, bytes, run.job.compiled.tables())?;
+    let decls = run.job.compiled.tables();
+    let mut joined = Joined::new(alloc, decls)?;
+    let tail = open_rounds(alloc, disk, bytes, decls, &mut joined)?;
+    let mut journal = JobJournal { tail, joined };
     text_after(rt, alloc, &run, settings, files, gate, &mut journal, disk)
 }
 
@@ -266,7 +270,7 @@ fn text_after<R: Threads + Sync, F: Files, G: Gate + Sync, K: Disk>(
     settings: &RunSettings,
     files: &mut F,
     gate: &G,
-    journal: &mut Journal,
+    journal: &mut JobJournal,
     disk: &mut K,
 ) -> Result<Vec<u8>, Failure>
     requires few { length (F.names files.old) < 128 }
@@ -274,19 +278,19 @@ fn text_after<R: Threads + Sync, F: Files, G: Gate + Sync, K: Disk>(
     requires read_as { IsReadAs settings.now run.now }
     requires journal { HasJournal run.now.job journal.old (K.bytes disk.old) }
 
-    ensures value { (name : JobBytes) → IsOf name journal.old
-        → AnswersJob F.Files (λ status. IsAfterRounds settings.now run.now.job name (rounds_of journal.old) (F.held files.old settings.now.input)
+    ensures value { (name : JobBytes) → IsOf name journal.old.tail
+        → AnswersJob F.Files (λ status. IsAfterRounds settings.now run.now.job name (rounds_of journal.old.tail) (F.held files.old settings.now.input)
         (K.bytes disk.old)) (settings.now.input ∷ []) but_one files.old files.new (vec_items_of result) }
     ensures end { OnOk result (ReadToEnd F.Files files.old files.new settings.now.input) }
     ensures names { OnOk result (F.names files.new ≡ F.names files.old ++ settings.now.input ∷ []) }
     ensures stopped { (input held : List ℕ) (name : JobBytes) → F.held files.old settings.now.input ≡ Some input
-        → Rests (K.bytes disk.old) (K.may_leave disk.old) held → IsJournalOf name run.now.job journal.old (K.bytes disk.old)
-        → IsFound name run.now.job (source_of settings.now input) held (rounds_of journal.old)
-        → KeepsJob K.Disk name run.now.job (source_of settings.now input) held (rounds_of journal.old) (status_of_answer (vec_items_of result)) disk.old
+        → Rests (K.bytes disk.old) (K.may_leave disk.old) held → IsJournalOf name run.now.job journal.old.tail (K.bytes disk.old)
+        → IsFound name run.now.job (source_of settings.now input) held (rounds_of journal.old.tail)
+        → KeepsJob K.Disk name run.now.job (source_of settings.now input) held (rounds_of journal.old.tail) (status_of_answer (vec_items_of result)) disk.old
         disk.new }
     ensures entries { (name : JobBytes) (held : List ℕ) → Rests (K.bytes disk.old) (K.may_leave disk.old) held → are_told (K.may_leave disk.old) ≡ true
-        → IsJournalOf name run.now.job journal.old (K.bytes disk.old)
-        → LeavesOnly K.time K.left_since disk.old disk.new (SpellsMore name (all_tables run.now.job.compiled) (rounds_of journal.old)) }
+        → IsJournalOf name run.now.job journal.old.tail (K.bytes disk.old)
+        → LeavesOnly K.time K.left_since disk.old disk.new (SpellsMore name (all_tables run.now.job.compiled) (rounds_of journal.old.tail)) }
 
     ensures disk_failed { IsErrOf result Failure.DiskFailed → Rose (K.faults disk.old) (K.faults disk.new) }
 

@@ -21,11 +21,11 @@ returns-in_err-take_round-in-Entry-clause-value g c =
     let p = err_from_is_err_and c.from_residual-in_err-take_round-in-Entry.result
     c.from_residual-in_err-take_round-in-Entry.ensures.1 in
     turn_failed c.requires.at c.end-gate.ensures.value c.in_ok-read_gate.ensures.value c.in-Entry.is
-    c.deref.ensures.value c.take_round.new.journal c.from_residual-in_err-take_round-in-Entry.result
+    c.deref.ensures.value c.take_round.new.tail c.from_residual-in_err-take_round-in-Entry.result
     c.in_err-take_round-in-Entry.field-0.0 p.0 c.in_err-take_round-in-Entry.ensures.value p.1 p.2
 
 pub returns-clause-value : goal.returns-clause-value
 returns-clause-value g c =
     turn_more c.requires.at c.end-gate.ensures.value c.in_ok-read_gate.ensures.value c.in-Entry.is
-    c.deref.ensures.value c.take_round.new.journal
+    c.deref.ensures.value c.take_round.new.tail
     c.in_ok-take_round-in-Entry.ensures.value c.in_ok-read_gate.ensures.within

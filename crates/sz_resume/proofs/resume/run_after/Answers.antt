@@ -21,7 +21,7 @@ use Rattle.sz_resume.proofs.resume.run_after.Goals as goal
 -- nothing was read
 pub loop-intake-init : goal.loop-intake-init
 loop-intake-init g c =
-    let rounds = rounds_of c.args.journal.now in
+    let rounds = rounds_of c.args.journal.now.tail in
     let disk = c.args.disk.now in
     record {
       given = c.requires.given;
@@ -33,6 +33,7 @@ loop-intake-init g c =
       journal_is = λ name j. j;
       grows = ([], sym (append-nil rounds), tt);
       stands = λ input told all. all;
+      joined = c.requires.journal.joined;
       keeps = λ name held rests j. keeps_at rests j;
       entries = λ name held rests is_told j. entries_none (g.met.K.Disk.only_now disk) rests is_told (spelled_at rests.read j);
       stopped = λ input held name told rests is_told j stands.
@@ -47,54 +48,55 @@ pub fill_round-requires-clause-can_read : goal.fill_round-requires-clause-can_re
 fill_round-requires-clause-can_read g c = can_read c.loop-intake.invariant.behind
 
 -- what stands after the rounds
-pub ended-requires-clause-are : goal.ended-requires-clause-are
-ended-requires-clause-are g c =
-    let j = c.requires.journal in (j.name, (c.loop-intake.invariant.journal_is j.name j.is).are)
+pub ended-requires : goal.ended-requires
+ended-requires g c =
+    record { some = (all_tables c.args.run.now.job.compiled, (rounds_of c.loop-intake.journal.tail, c.loop-intake.invariant.joined)) }
+
 
 -- the answer where no shard is left
 pub returns-in-Some-clause-value : goal.returns-in-Some-clause-value
 returns-in-Some-clause-value g c input told all =
     let inv = c.loop-intake.invariant in
-    let rounds = rounds_of c.loop-intake.journal in
+    let rounds = rounds_of c.loop-intake.journal.tail in
     let left = g.F.Files.left c.args.files.now c.args.file in
     let f = c.in_ok-fill_round.ensures in
     let b = way_filled inv.behind c.fill_round.new.intake (g.F.Files.left c.fill_round.new.files c.args.file) f.ok f.first f.first_shard in
     way_ends b f.ready (sym c.end.ensures.value ∙ c.in-Some.is) input
-    (rest_told left input (last_progress (rounds_of c.args.journal.now)).bytes (last_progress rounds).bytes inv.rises told) c.args.journal.now
-    (inv.stands input told all) c.ended.result c.ended.ensures.value
+    (rest_told left input (last_progress (rounds_of c.args.journal.now.tail)).bytes (last_progress rounds).bytes inv.rises told) c.args.journal.now.tail
+    (inv.stands input told all) c.ended.result (c.ended.ensures.value (all_tables c.args.run.now.job.compiled) (rounds_of c.loop-intake.journal.tail) c.loop-intake.invariant.joined)
 
 pub returns-in-Some-clause-end : goal.returns-in-Some-clause-end
 returns-in-Some-clause-end g c =
     let inv = c.loop-intake.invariant in
     let f = c.in_ok-fill_round.ensures in
     let b = way_filled inv.behind c.fill_round.new.intake (g.F.Files.left c.fill_round.new.files c.args.file) f.ok f.first f.first_shard in
-    way_over b f.ready (sym c.end.ensures.value ∙ c.in-Some.is) c.ended.result c.ended.ensures.value
+    way_over b f.ready (sym c.end.ensures.value ∙ c.in-Some.is) c.ended.result (c.ended.ensures.value (all_tables c.args.run.now.job.compiled) (rounds_of c.loop-intake.journal.tail) c.loop-intake.invariant.joined)
 
 pub returns-in-Some-clause-told : goal.returns-in-Some-clause-told
 returns-in-Some-clause-told g c =
     let inv = c.loop-intake.invariant in
-    let rounds = rounds_of c.loop-intake.journal in
+    let rounds = rounds_of c.loop-intake.journal.tail in
     let left = g.F.Files.left c.args.files.now c.args.file in
     let f = c.in_ok-fill_round.ensures in
     let b = way_filled inv.behind c.fill_round.new.intake (g.F.Files.left c.fill_round.new.files c.args.file) f.ok f.first f.first_shard in
-    on_any c.ended.result _ (way_told b left ((last_progress rounds).bytes - (last_progress (rounds_of c.args.journal.now)).bytes) refl)
+    on_any c.ended.result _ (way_told b left ((last_progress rounds).bytes - (last_progress (rounds_of c.args.journal.now.tail)).bytes) refl)
 
 pub returns-in-Some-clause-grows : goal.returns-in-Some-clause-grows
 returns-in-Some-clause-grows g c = on_any c.ended.result _ c.loop-intake.invariant.grows
 
 pub returns-in-Some-clause-long : goal.returns-in-Some-clause-long
 returns-in-Some-clause-long g c gate is =
-    so_not (all_tables c.args.run.now.job.compiled) (rounds_of c.loop-intake.journal) c.in-Some.ending c.ended.result (halts.Short gate) c.ended.ensures.value is
+    so_not (all_tables c.args.run.now.job.compiled) (rounds_of c.loop-intake.journal.tail) c.in-Some.ending c.ended.result (halts.Short gate) (c.ended.ensures.value (all_tables c.args.run.now.job.compiled) (rounds_of c.loop-intake.journal.tail) c.loop-intake.invariant.joined) is
 
 pub returns-in-Some-clause-failed : goal.returns-in-Some-clause-failed
 returns-in-Some-clause-failed g c is =
     absurd
-    (so_not (all_tables c.args.run.now.job.compiled) (rounds_of c.loop-intake.journal) c.in-Some.ending c.ended.result (halts.Stopped stops.ReadFailed) c.ended.ensures.value is)
+    (so_not (all_tables c.args.run.now.job.compiled) (rounds_of c.loop-intake.journal.tail) c.in-Some.ending c.ended.result (halts.Stopped stops.ReadFailed) (c.ended.ensures.value (all_tables c.args.run.now.job.compiled) (rounds_of c.loop-intake.journal.tail) c.loop-intake.invariant.joined) is)
 
 pub returns-in-Some-clause-disk_failed : goal.returns-in-Some-clause-disk_failed
 returns-in-Some-clause-disk_failed g c is =
     absurd
-    (so_not (all_tables c.args.run.now.job.compiled) (rounds_of c.loop-intake.journal) c.in-Some.ending c.ended.result halts.DiskFailed c.ended.ensures.value is)
+    (so_not (all_tables c.args.run.now.job.compiled) (rounds_of c.loop-intake.journal.tail) c.in-Some.ending c.ended.result halts.DiskFailed (c.ended.ensures.value (all_tables c.args.run.now.job.compiled) (rounds_of c.loop-intake.journal.tail) c.loop-intake.invariant.joined) is)
 
 pub returns-in-Some-clause-stopped : goal.returns-in-Some-clause-stopped
 returns-in-Some-clause-stopped g c input held name told rests is_told j stands =
@@ -104,15 +106,15 @@ pub returns-in-Some-clause-ended : goal.returns-in-Some-clause-ended
 returns-in-Some-clause-ended g c input held name told rests j stands =
     let s = c.args.run.now in
     let inv = c.loop-intake.invariant in
-    let first = rounds_of c.args.journal.now in
-    let rounds = rounds_of c.loop-intake.journal in
+    let first = rounds_of c.args.journal.now.tail in
+    let rounds = rounds_of c.loop-intake.journal.tail in
     let left = g.F.Files.left c.args.files.now c.args.file in
     let disk = c.loop-intake.disk in
     let f = c.in_ok-fill_round.ensures in
     let b = way_filled inv.behind c.fill_round.new.intake (g.F.Files.left c.fill_round.new.files c.args.file) f.ok f.first f.first_shard in
     let all = found_stands c.args.run.now.job (record { frame = s.frame; most = s.shard; bytes = input }) name held first (inr stands) in
     on_any c.ended.result _ (way_holds b f.ready (sym c.end.ensures.value ∙ c.in-Some.is) input
-    (rest_told left input (last_progress first).bytes (last_progress rounds).bytes inv.rises told) c.args.journal.now (inv.stands input told all) name held
+    (rest_told left input (last_progress first).bytes (last_progress rounds).bytes inv.rises told) c.args.journal.now.tail (inv.stands input told all) name held
     first stands (g.K.Disk.bytes disk) (g.K.Disk.may_leave disk) (inv.keeps name held rests j))
 
 -- a piece couldn't be read
@@ -121,7 +123,7 @@ returns-in_err-fill_round-clause-value g c input told all =
     let p = err_from_is_err_and c.from_residual.result c.from_residual.ensures.1 in
     let s = c.args.run.now in
     let e = c.in_err-fill_round.ensures.err in
-    rw (p.1, p.2, e.1) (way_unread c.args.run.now.job c.args.journal.now (record { frame = s.frame; most = s.shard; bytes = input }) e.0)
+    rw (p.1, p.2, e.1) (way_unread c.args.run.now.job c.args.journal.now.tail (record { frame = s.frame; most = s.shard; bytes = input }) e.0)
 
 pub returns-in_err-fill_round-clause-long : goal.returns-in_err-fill_round-clause-long
 returns-in_err-fill_round-clause-long g c gate is =
@@ -149,7 +151,8 @@ returns-in_err-fill_round-clause-stopped g c input held name told rests is_told 
 -- the next round can be run
 pub run_next-requires-clause-journal : goal.run_next-requires-clause-journal
 run_next-requires-clause-journal g c κs within =
-    let j = c.requires.journal in record { name = j.name; is = c.loop-intake.invariant.journal_is j.name j.is }
+    let j = c.requires.journal in
+    record { name = j.name; is = c.loop-intake.invariant.journal_is j.name j.is; joined = c.loop-intake.invariant.joined }
 
 pub run_next-requires-clause-next : goal.run_next-requires-clause-next
 run_next-requires-clause-next g c κs within =
@@ -173,8 +176,8 @@ loop-intake-preserved g c =
     let s = c.args.run.now in
     let file = c.args.file in
     let inv = c.loop-intake.invariant in
-    let first = rounds_of c.args.journal.now in
-    let rounds = rounds_of c.loop-intake.journal in
+    let first = rounds_of c.args.journal.now.tail in
+    let rounds = rounds_of c.loop-intake.journal.tail in
     let left = g.F.Files.left c.args.files.now file in
     let now = g.F.Files.left c.fill_round.new.files file in
     let from = (last_progress first).bytes in
@@ -229,12 +232,12 @@ pub returns-in_err-run_next-clause-value : goal.returns-in_err-run_next-clause-v
 returns-in_err-run_next-clause-value g c input told all =
     let p = err_from_is_err_and c.from_residual-in_err-run_next.result c.from_residual-in_err-run_next.ensures.1 in
     let inv = c.loop-intake.invariant in
-    let rounds = rounds_of c.loop-intake.journal in
+    let rounds = rounds_of c.loop-intake.journal.tail in
     let left = g.F.Files.left c.args.files.now c.args.file in
     let f = c.in_ok-fill_round.ensures in
     let b = way_filled inv.behind c.fill_round.new.intake (g.F.Files.left c.fill_round.new.files c.args.file) f.ok f.first f.first_shard in
     rw (p.1, p.2) (way_halts b input
-    (rest_told left input (last_progress (rounds_of c.args.journal.now)).bytes (last_progress rounds).bytes inv.rises told) c.args.journal.now
+    (rest_told left input (last_progress (rounds_of c.args.journal.now.tail)).bytes (last_progress rounds).bytes inv.rises told) c.args.journal.now.tail
     (inv.stands input told all) c.in_err-run_next.field-0.0 c.in_err-run_next.ensures.err)
 
 pub returns-in_err-run_next-clause-long : goal.returns-in_err-run_next-clause-long
@@ -250,7 +253,7 @@ pub returns-in_err-run_next-clause-entries : goal.returns-in_err-run_next-clause
 returns-in_err-run_next-clause-entries g c name held rests is_told j =
     let inv = c.loop-intake.invariant in
     let k = inv.keeps name held rests j in
-    entries_both name (all_tables c.args.run.now.job.compiled) (rounds_of c.args.journal.now) inv.grows.0 inv.grows.1 (inv.entries name held rests is_told j)
+    entries_both name (all_tables c.args.run.now.job.compiled) (rounds_of c.args.journal.now.tail) inv.grows.0 inv.grows.1 (inv.entries name held rests is_told j)
     (c.run_next.ensures.entries name k.held k.rests (inv.told ∙ is_told) (inv.journal_is name j))
 
 pub returns-in_err-run_next-clause-stopped : goal.returns-in_err-run_next-clause-stopped
@@ -259,8 +262,8 @@ returns-in_err-run_next-clause-stopped g c input held name told rests is_told j 
     let job = c.args.run.now.job in
     let s = c.args.run.now in
     let inv = c.loop-intake.invariant in
-    let first = rounds_of c.args.journal.now in
-    let rounds = rounds_of c.loop-intake.journal in
+    let first = rounds_of c.args.journal.now.tail in
+    let rounds = rounds_of c.loop-intake.journal.tail in
     let left = g.F.Files.left c.args.files.now c.args.file in
     let f = c.in_ok-fill_round.ensures in
     let b = way_filled inv.behind c.fill_round.new.intake (g.F.Files.left c.fill_round.new.files c.args.file) f.ok f.first f.first_shard in

@@ -41,7 +41,8 @@ pub append-requires : goal.append-requires
 append-requires g c =
     let v = c.in_ok-tables.ensures.value in
     record {
-      can = can_append c.requires.next v.1 (c.in_ok-round.ensures.value v.0 v.1) c.args.journal.now refl (g.K.Disk.bytes c.args.disk.now) c.requires.journal c.requires.can_resume.is_job;
+      can = can_append c.requires.next v.1 (c.in_ok-round.ensures.value v.0 v.1) c.args.journal.now.tail refl c.requires.journal.name (g.K.Disk.bytes c.args.disk.now)
+          c.requires.journal.is c.requires.can_resume.is_job;
     }
 
 -- it has a place after it
@@ -58,14 +59,14 @@ move_on-requires-clause-numbers g c = few_numbers c.requires.next
 pub returns-in-Ok-clause-ok : goal.returns-in-Ok-clause-ok
 returns-in-Ok-clause-ok g c =
     let v = c.in_ok-tables.ensures.value in
-    let rounds = rounds_of c.args.journal.now in
+    let rounds = rounds_of c.args.journal.now.tail in
     subst (AddsRound c.args.run.now.job rounds (rounds_of c.append.new.self) c.args.intake.now) (sym c.move_on.ensures.value)
     (adds_round c.requires.next v.1 (c.in_ok-round.ensures.value v.0 v.1) (rounds_of c.append.new.self) c.in-Ok.ensures.rounds)
 
 pub returns-in-Ok-clause-journal : goal.returns-in-Ok-clause-journal
 returns-in-Ok-clause-journal g c =
     let v = c.in_ok-tables.ensures.value in
-    journal_is c.requires.next v.1 (c.in_ok-round.ensures.value v.0 v.1) c.args.journal.now refl c.append.new.self (g.K.Disk.bytes c.args.disk.now) (g.K.Disk.bytes c.append.new.disk)
+    journal_is c.requires.next v.1 (c.in_ok-round.ensures.value v.0 v.1) c.args.journal.now.tail refl c.append.new.self (g.K.Disk.bytes c.args.disk.now) (g.K.Disk.bytes c.append.new.disk)
     (g.K.Disk.may_leave c.append.new.disk) c.requires.can_resume.is_job c.in-Ok.ensures.rounds c.in-Ok.ensures.is_of c.append.ensures.untold c.in-Ok.ensures.ok
 
 pub returns-in-Ok-clause-stands : goal.returns-in-Ok-clause-stands
@@ -77,32 +78,32 @@ returns-in-Ok-clause-stands g c source start left b told all =
 pub returns-in-Ok-clause-keeps : goal.returns-in-Ok-clause-keeps
 returns-in-Ok-clause-keeps g c =
     let v = c.in_ok-tables.ensures.value in
-    keeps_then c.requires.next v.1 (c.in_ok-round.ensures.value v.0 v.1) c.args.journal.now refl c.append.new.self (g.K.Disk.bytes c.args.disk.now) (g.K.Disk.bytes c.append.new.disk)
+    keeps_then c.requires.next v.1 (c.in_ok-round.ensures.value v.0 v.1) c.args.journal.now.tail refl c.append.new.self (g.K.Disk.bytes c.args.disk.now) (g.K.Disk.bytes c.append.new.disk)
     (g.K.Disk.may_leave c.append.new.disk) c.requires.can_resume.is_job c.in-Ok.ensures.rounds c.in-Ok.ensures.ok
 
 pub returns-in-Ok-clause-stopped : goal.returns-in-Ok-clause-stopped
 returns-in-Ok-clause-stopped g c name source held start left b told stands rests is_told j =
     let v = c.in_ok-tables.ensures.value in (
       c.in_ok-round.round ∷ [],
-      leaves_round c.requires.next v.1 (c.in_ok-round.ensures.value v.0 v.1) c.args.journal.now refl c.requires.can_resume.is_job c.append.ensures.leaves b told stands rests is_told j,
+      leaves_round c.requires.next v.1 (c.in_ok-round.ensures.value v.0 v.1) c.args.journal.now.tail refl c.requires.can_resume.is_job c.append.ensures.leaves b told stands rests is_told j,
       c.in-Ok.ensures.rounds,
     )
 
 pub returns-in-Ok-clause-entries : goal.returns-in-Ok-clause-entries
 returns-in-Ok-clause-entries g c =
     let v = c.in_ok-tables.ensures.value in
-    entries_round c.requires.next v.1 (c.in_ok-round.ensures.value v.0 v.1) c.args.journal.now refl c.requires.can_resume.is_job c.append.ensures.leaves
+    entries_round c.requires.next v.1 (c.in_ok-round.ensures.value v.0 v.1) c.args.journal.now.tail refl c.requires.can_resume.is_job c.append.ensures.leaves
 
 -- it may have been
 pub returns-clause-entries : goal.returns-clause-entries
 returns-clause-entries g c =
     let v = c.in_ok-tables.ensures.value in
-    entries_round c.requires.next v.1 (c.in_ok-round.ensures.value v.0 v.1) c.args.journal.now refl c.requires.can_resume.is_job c.append.ensures.leaves
+    entries_round c.requires.next v.1 (c.in_ok-round.ensures.value v.0 v.1) c.args.journal.now.tail refl c.requires.can_resume.is_job c.append.ensures.leaves
 
 pub returns-clause-stopped : goal.returns-clause-stopped
 returns-clause-stopped g c name source held start left b told stands rests is_told j =
     let v = c.in_ok-tables.ensures.value in (
       c.in_ok-round.round ∷ [],
-      leaves_round c.requires.next v.1 (c.in_ok-round.ensures.value v.0 v.1) c.args.journal.now refl c.requires.can_resume.is_job c.append.ensures.leaves b told stands rests is_told j,
+      leaves_round c.requires.next v.1 (c.in_ok-round.ensures.value v.0 v.1) c.args.journal.now.tail refl c.requires.can_resume.is_job c.append.ensures.leaves b told stands rests is_told j,
       tt,
     )

@@ -4,8 +4,8 @@ use Rattle.sz_resume.proofs.round.done_after.Goals as goal
 -- the input can be run on after rounds of a job
 pub returns-clause-can : goal.returns-clause-can
 returns-clause-can c =
-    λ name decls are. can_go_on name decls c.args.rounds.now c.last_progress-progress.result c.last_progress-progress.ensures.value are
+    λ name decls rounds are is. can_go_on name decls rounds c.args.progress is are
 
 pub returns-clause-passed : goal.returns-clause-passed
 returns-clause-passed c =
-    λ name decls are. few_passed name decls c.args.rounds.now c.last_progress-progress.result c.last_progress-progress.ensures.value are
+    λ name decls rounds are is. few_passed name decls rounds c.args.progress is are

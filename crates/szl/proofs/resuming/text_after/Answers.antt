@@ -25,7 +25,7 @@ returns-in_err-file-clause-value g c name is_of =
     let files = g.F.Files in
     let old = c.args.files.now in
     let e = c.in_err-file.field-0.0 in
-    rw (p.1, p.2) (unopened files c.args.settings.now c.args.run.now.job name (rounds_of c.args.journal.now) old c.open_file.new.self
+    rw (p.1, p.2) (unopened files c.args.settings.now c.args.run.now.job name (rounds_of c.args.journal.now.tail) old c.open_file.new.self
     (g.K.Disk.bytes c.args.disk.now) e (λ is. c.in_err-file.ensures.failed (ap Err is))
     (c.in_err-file.ensures.names ∙ ap (λ name. names_after (files.names old) name (Err e)) c.as_str.ensures.value))
 
@@ -34,13 +34,13 @@ returns-in_err-file-clause-stopped g c input held name told rests is_of found =
     let p = err_from_is_err_and c.from_residual.result c.from_residual.ensures.1 in
     let f = failure_of_opening c.in_err-file.field-0.0 in
     let disk = c.args.disk.now in
-    rw (p.1, p.2) (keeps_none name c.args.run.now.job (source_of c.args.settings.now input) g.K.Disk held (rounds_of c.args.journal.now) found (status_of f)
-    (not_done f) disk (g.met.K.Disk.only_now disk) rests)
+    rw (p.1, p.2) (keeps_none name c.args.run.now.job (source_of c.args.settings.now input) g.K.Disk held (rounds_of c.args.journal.now.tail) found (status_of f)
+    (not_done f) disk (g.met.K.Disk.only_now disk))
 
 pub returns-in_err-file-clause-entries : goal.returns-in_err-file-clause-entries
 returns-in_err-file-clause-entries g c name held rests is_told is_of =
     let disk = c.args.disk.now in
-    rounds_untouched g.K.Disk name (all_tables c.args.run.now.job.compiled) (rounds_of c.args.journal.now) disk held (g.met.K.Disk.only_now disk) rests is_told
+    rounds_untouched g.K.Disk name (all_tables c.args.run.now.job.compiled) (rounds_of c.args.journal.now.tail) disk held (g.met.K.Disk.only_now disk) rests is_told
     is_of.spells
 
 -- there are no tables
@@ -55,7 +55,7 @@ returns-in_err-all-clause-value g c name is_of =
     let new = c.resume_file.new.files in
     let file = c.in_ok-file.file in
     let halt = c.in_err-all.field-0.0 in
-    let j = c.args.journal.now in
+    let j = c.args.journal.now.tail in
     let held = c.in_ok-file.ensures.bytes ∙ ap (files.held old) c.as_str.ensures.value in
     let names = c.resume_file.ensures.kept.names_same
     ∙ c.in_ok-file.ensures.names ∙ ap (λ name. names_after (files.names old) name (Ok file)) c.as_str.ensures.value in
@@ -75,12 +75,12 @@ returns-in_err-all-clause-stopped g c input held name told rests is_of found =
     let s = c.args.settings.now in
     let run = c.args.run.now in
     let read_as = c.requires.read_as in
-    let rounds = rounds_of c.args.journal.now in
+    let rounds = rounds_of c.args.journal.now.tail in
     let p = err_from_is_err_and c.from_residual-in_err-all.result c.from_residual-in_err-all.ensures.1 in
     let files = g.F.Files in
     let f = failure_of_halt c.in_err-all.field-0.0 in
     let left = c.in_ok-file.ensures.bytes ∙ ap (files.held c.args.files.now) c.as_str.ensures.value ∙ told in
-    rw (p.1, p.2) (keeps_stopped name c.args.run.now.job (source_of c.args.settings.now input) g.K.Disk held (rounds_of c.args.journal.now) (status_of f)
+    rw (p.1, p.2) (keeps_stopped name c.args.run.now.job (source_of c.args.settings.now input) g.K.Disk held (rounds_of c.args.journal.now.tail) (status_of f)
     c.args.disk.now c.resume_file.new.disk (not_done f) (λ is_told. left_as s run read_as g.K.Disk name held rounds input (λ added. Unit {0}) c.args.disk.now c.resume_file.new.disk
     (c.in_err-all.ensures.stopped input held name left rests is_told is_of (found_as s run read_as name held rounds input found))))
 
@@ -99,7 +99,7 @@ returns-in_err-text_of-clause-value g c name is_of =
     ∙ c.in_ok-file.ensures.names ∙ ap (λ name. names_after (files.names old) name (Ok file)) c.as_str.ensures.value in
     let one = opens_one files job s old mid new file c.in_ok-file.ensures.fresh c.open_file.ensures.kept c.resume_file.ensures.kept
     c.in_ok-file.ensures.given in
-    rw (p.1, p.2) (no_memory files s job name (rounds_of c.args.journal.now) old new (g.K.Disk.bytes c.args.disk.now)
+    rw (p.1, p.2) (no_memory files s job name (rounds_of c.args.journal.now.tail) old new (g.K.Disk.bytes c.args.disk.now)
     (opened_one files old new s.input [] 1 status.NoMemory (omega arith) names (λ read memory. refl) (λ read memory. one)))
 
 pub returns-in_err-text_of-clause-stopped : goal.returns-in_err-text_of-clause-stopped
@@ -107,13 +107,13 @@ returns-in_err-text_of-clause-stopped g c input held name told rests is_of found
     let s = c.args.settings.now in
     let run = c.args.run.now in
     let read_as = c.requires.read_as in
-    let rounds = rounds_of c.args.journal.now in
-    let now = rounds_of c.resume_file.new.journal in
+    let rounds = rounds_of c.args.journal.now.tail in
+    let now = rounds_of c.resume_file.new.journal.tail in
     let p = err_from_is_err_and c.from_residual-in_err-text_of.result c.from_residual-in_err-text_of.ensures.1 in
     let files = g.F.Files in
     let left = c.in_ok-file.ensures.bytes ∙ ap (files.held c.args.files.now) c.as_str.ensures.value ∙ told in
-    rw (p.1, p.2) (keeps_ended name c.args.run.now.job (source_of c.args.settings.now input) g.K.Disk held (rounds_of c.args.journal.now) status.NoMemory
-    c.args.disk.now c.resume_file.new.disk (rounds_of c.resume_file.new.journal) (λ is_told. left_as s run read_as g.K.Disk name held rounds input (λ added. now ≡ rounds ++ added) c.args.disk.now c.resume_file.new.disk
+    rw (p.1, p.2) (keeps_ended name c.args.run.now.job (source_of c.args.settings.now input) g.K.Disk held (rounds_of c.args.journal.now.tail) status.NoMemory
+    c.args.disk.now c.resume_file.new.disk (rounds_of c.resume_file.new.journal.tail) (λ is_told. left_as s run read_as g.K.Disk name held rounds input (λ added. now ≡ rounds ++ added) c.args.disk.now c.resume_file.new.disk
     (c.in_ok-all.ensures.stopped input held name left rests is_told is_of (found_as s run read_as name held rounds input found))) c.in_ok-all.ensures.grows
     (held_as s run read_as g.K.Disk name input c.resume_file.new.disk now
     (c.in_ok-all.ensures.ended input held name left rests is_of (found_as s run read_as name held rounds input found))))
@@ -129,7 +129,7 @@ returns-clause-value g c name is_of =
     let new = c.resume_file.new.files in
     let file = c.in_ok-file.file in
     let all = c.in_ok-all.all in
-    let j = c.args.journal.now in
+    let j = c.args.journal.now.tail in
     let held = c.in_ok-file.ensures.bytes ∙ ap (files.held old) c.as_str.ensures.value in
     let names = c.resume_file.ensures.kept.names_same
     ∙ c.in_ok-file.ensures.names ∙ ap (λ name. names_after (files.names old) name (Ok file)) c.as_str.ensures.value in
@@ -148,12 +148,12 @@ returns-clause-stopped g c input held name told rests is_of found =
     let s = c.args.settings.now in
     let run = c.args.run.now in
     let read_as = c.requires.read_as in
-    let rounds = rounds_of c.args.journal.now in
-    let now = rounds_of c.resume_file.new.journal in
+    let rounds = rounds_of c.args.journal.now.tail in
+    let now = rounds_of c.resume_file.new.journal.tail in
     let files = g.F.Files in
     let left = c.in_ok-file.ensures.bytes ∙ ap (files.held c.args.files.now) c.as_str.ensures.value ∙ told in
-    keeps_ended name c.args.run.now.job (source_of c.args.settings.now input) g.K.Disk held (rounds_of c.args.journal.now) status.Done
-    c.args.disk.now c.resume_file.new.disk (rounds_of c.resume_file.new.journal) (λ is_told. left_as s run read_as g.K.Disk name held rounds input (λ added. now ≡ rounds ++ added) c.args.disk.now c.resume_file.new.disk
+    keeps_ended name c.args.run.now.job (source_of c.args.settings.now input) g.K.Disk held (rounds_of c.args.journal.now.tail) status.Done
+    c.args.disk.now c.resume_file.new.disk (rounds_of c.resume_file.new.journal.tail) (λ is_told. left_as s run read_as g.K.Disk name held rounds input (λ added. now ≡ rounds ++ added) c.args.disk.now c.resume_file.new.disk
     (c.in_ok-all.ensures.stopped input held name left rests is_told is_of (found_as s run read_as name held rounds input found))) c.in_ok-all.ensures.grows
     (held_as s run read_as g.K.Disk name input c.resume_file.new.disk now
     (c.in_ok-all.ensures.ended input held name left rests is_of (found_as s run read_as name held rounds input found)))

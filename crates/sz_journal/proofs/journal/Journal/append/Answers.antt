@@ -1,34 +1,22 @@
--- The entry that is appended is that of the round.
-use Rattle.std.proofs.Common.{◌≡◌, ◌∙◌, inl}
-use Rattle.sz_journal.specs.Rounds.{round_bytes}
-use Rattle.sz_journal.specs.Journals.{entries_of}
-use Rattle.sz_journal.specs.Journal.{rounds_of}
-use Rattle.sz_journal.proofs.SpellLemmas.{keeps_more, leaves_one}
-use Rattle.sz_journal.proofs.LeftLemmas.{leaves_still}
+-- The tail gains the round, and so do the rounds that are kept.
+use Rattle.std.proofs.Common.{◌≡◌, ◌∙◌, ◌∷◌, ◌++◌, [], slice_get, sym}
+use Rattle.sz_journal.proofs.FollowLemmas.{at_end}
 use Rattle.sz_journal.proofs.journal.Journal.append.Goals as goal
 
-pub returns-in_err-push-clause-leaves : goal.returns-in_err-push-clause-leaves
-returns-in_err-push-clause-leaves g c job decls held rests is_of spells are is_told =
-    leaves_still (g.met.K.Disk.only_now c.args.disk.now) rests is_told (inl spells)
+pub returns-then-is_err-clause-leaves : goal.returns-then-is_err-clause-leaves
+returns-then-is_err-clause-leaves g c =
+    let same : c.get.result.now ≡ c.args.round = at_end c.args.self.now.rounds c.args.round c.get.result.now
+    (sym (λ i. slice_get (c.in_ok-push.ensures.ok i) (c.len-count.ensures.value i)) ∙ c.get.ensures.value) in
+    rw same at c.append-written.ensures.leaves
 
-pub returns-in_err-next-clause-leaves : goal.returns-in_err-next-clause-leaves
-returns-in_err-next-clause-leaves g c job decls held rests is_of spells are is_told =
-    let rounds = rounds_of c.args.self.now in
-    let is : c.deref.result.now ≡ round_bytes c.args.round = c.deref.ensures.value ∙ c.in_ok-entry.ensures.value in
-    leaves_one job rounds c.args.round c.deref.result.now is decls are spells.are
-    (c.append.ensures.leaves (entries_of job rounds) held rests spells.holds is_of.end is_told)
+pub returns-else-is_err-clause-ok : goal.returns-else-is_err-clause-ok
+returns-else-is_err-clause-ok g c =
+    let same : c.get.result.now ≡ c.args.round = at_end c.args.self.now.rounds c.args.round c.get.result.now
+    (sym (λ i. slice_get (c.in_ok-push.ensures.ok i) (c.len-count.ensures.value i)) ∙ c.get.ensures.value) in
+    rw same at c.append-written.ensures.ok
 
-pub returns-clause-ok : goal.returns-clause-ok
-returns-clause-ok g c job decls held read is_of spells are =
-    let rounds = rounds_of c.args.self.now in
-    let is : c.deref.result.now ≡ round_bytes c.args.round = c.deref.ensures.value ∙ c.in_ok-entry.ensures.value in
-    keeps_more job rounds c.args.round c.deref.result.now is decls are (g.K.Disk.bytes c.append.new.disk)
-    (g.K.Disk.may_leave c.append.new.disk)
-    (c.in_ok-next.ensures.ok (entries_of job rounds) held read spells.holds is_of.end)
-
-pub returns-clause-leaves : goal.returns-clause-leaves
-returns-clause-leaves g c job decls held rests is_of spells are is_told =
-    let rounds = rounds_of c.args.self.now in
-    let is : c.deref.result.now ≡ round_bytes c.args.round = c.deref.ensures.value ∙ c.in_ok-entry.ensures.value in
-    leaves_one job rounds c.args.round c.deref.result.now is decls are spells.are
-    (c.append.ensures.leaves (entries_of job rounds) held rests spells.holds is_of.end is_told)
+pub returns-else-is_err-clause-leaves : goal.returns-else-is_err-clause-leaves
+returns-else-is_err-clause-leaves g c =
+    let same : c.get.result.now ≡ c.args.round = at_end c.args.self.now.rounds c.args.round c.get.result.now
+    (sym (λ i. slice_get (c.in_ok-push.ensures.ok i) (c.len-count.ensures.value i)) ∙ c.get.ensures.value) in
+    rw same at c.append-written.ensures.leaves
