@@ -6,7 +6,7 @@ ghost use Rattle.sz_disk.specs.Crashes.{untold};
 use crate::Disk;
 use std::fs::{self, File, OpenOptions};
 use std::io;
-use std::os::unix::fs::FileExt;
+use std::os::unix::fs::{FileExt, MetadataExt};
 use sz_io::{Failed, OutsideError};
 
 /// The name of the file in the working directory.
@@ -18,8 +18,8 @@ const END: u64 = 1 << 63;
 /// The file `szl.journal` in the working directory.
 ///
 /// The first call opens it, or makes it, and locks it, so that no two processes use it at once. A lock that another one holds isn't waited for:
-/// then the disk has failed. It is given back when the file is closed, also where the process is killed. Where the opening fails, the next call
-/// opens it anew.
+/// then the disk has failed. It is given back when the file is closed, also where the process is killed. A symbolic link isn't followed: then too
+/// the disk has failed, and nothing is made or changed. Where the opening fails, the next call opens it anew.
 #[derive(Drop)]
 pub struct OsDisk<'a> {
     rt: &'a HostRuntime,
@@ -42,15 +42,25 @@ impl<'a> OsDisk<'a> {
     }
 }
 
-/// The file, opened or made, and locked. Its name is synced too: that of a file that was made may be lost with all that is in it.
+/// The file, which is made where the name is free. Nothing is made or opened behind a symbolic link.
+fn open_or_make(rt: &HostRuntime) -> io::Result<File> {
+    match File::create_new(rt, NAME) {
+        Err(error) if error.kind() == io::ErrorKind::AlreadyExists => {}
+        made => return made,
+    }
+    if !fs::symlink_metadata(rt, NAME)?.is_file() {
+        return Err(io::ErrorKind::Unsupported.into());
+    }
+    OpenOptions::new().read(true).write(true).open(rt, NAME)
+}
+
+/// The file, opened or made, and locked. It is none where the name is by now that of something else, as a link that came in between.
+/// Its name is synced too: that of a file that was made may be lost with all that is in it.
 fn open(rt: &HostRuntime) -> io::Result<File> {
-    let file = OpenOptions::new()
-        .read(true)
-        .write(true)
-        .create(true)
-        .open(rt, NAME)?;
-    if !file.metadata()?.is_file() {
-        return Err(io::Error::from(io::ErrorKind::Unsupported));
+    let file = open_or_make(rt)?;
+    let (found, named) = (file.metadata()?, fs::symlink_metadata(rt, NAME)?);
+    if !found.is_file() || found.dev() != named.dev() || found.ino() != named.ino() {
+        return Err(io::ErrorKind::Unsupported.into());
     }
     file.try_lock()?;
     fs::open(rt, ".")?.sync_all()?;

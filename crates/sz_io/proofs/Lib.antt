@@ -5,5 +5,6 @@ pub mod ListedLemmas
 pub mod NamedLemmas
 pub mod PlacedLemmas
 pub mod PutLemmas
+pub mod TryLemmas
 pub mod PlanLemmas
 mod LineLemmas

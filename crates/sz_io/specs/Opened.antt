@@ -1,6 +1,5 @@
 -- What opening and reading a file do to the files of a device.
-use Rattle.std.specs.Prelude.{◌≡◌, ◌≢◌, ℕ, ◌-◌, ◌^◌, ◌≤◌, ◌||◌, ◌==◌, Bool, true, IsTrue, List, [], ◌∷◌, ◌++◌, Option, Result, Ok, Err}
-use Rattle.sz_io.specs.Rose.{faults_after}
+use Rattle.std.specs.Prelude.{◌≡◌, ◌≢◌, ℕ, ◌-◌, ◌^◌, ◌≤◌, ◌||◌, ◌==◌, Bool, true, false, IsTrue, List, [], ◌∷◌, ◌++◌, Option, Result, Ok, Err}
 use Rattle.sz_io.specs.declared.error.OutsideError.{OutsideError}
 use Rattle.sz_io.specs.declared.error.OutsideError.TheVariants.{Failed, NoMemory}
 
@@ -15,11 +14,10 @@ abbrev pub given_after : (ℕ → Bool) → Result ℕ OutsideError → ℕ → 
 given_after given (Ok answered) file = (file == answered) || given file
 given_after given (Err error) file = given file
 
--- the count of faults after a call of `open_file` with this answer: want of memory is no fault
-abbrev pub faults_after_opening : ℕ → Result ℕ OutsideError → ℕ
-faults_after_opening faults (Ok file) = faults
-faults_after_opening faults (Err Failed) = faults_after faults true
-faults_after_opening faults (Err NoMemory) = faults
+-- whether a call of `open_file` failed: want of memory is no failure
+abbrev pub is_failed : Result ℕ OutsideError → Bool
+is_failed (Err Failed) = true
+is_failed result = false
 
 -- From one moment to a later one the bytes under each name are the same, each number given stays given and has the
 -- same bytes left, and the count of faults does not fall; where it stands at 2^64 - 1, it stays there.

@@ -16,7 +16,7 @@ module _ {R File Folder Input : Type 0} {reads : Reading.Ghosts File} {writes : 
 
   -- how many calls have failed
   abbrev pub system_faults : OsFiles R File Folder Input reads writes seeks lists buffers enters → ℕ
-  system_faults files = files.faults
+  system_faults files = files.faults.count
 
   -- whether a file was opened under this number: they are given from 0 on
   abbrev pub is_opened : OsFiles R File Folder Input reads writes seeks lists buffers enters → ℕ → Bool

@@ -4,4 +4,4 @@ use Rattle.sz_io.specs.declared.os_sink.OsSink.{OsSink}
 
 -- how many calls have failed
 abbrev pub stream_faults : {W : Type 0} → OsSink W → ℕ
-stream_faults sink = sink.faults
+stream_faults sink = sink.faults.count

@@ -40,6 +40,16 @@ pub enum WriteError {
     NoMemory(usize),
 }
 
+impl From<Failed> for OutsideError {
+    ghost use Rattle.sz_io.specs.declared.error.OutsideError.TheVariants as outside;
+
+    ghost from_gives = { λ _ e. e ≡ outside.Failed };
+
+    fn from(_: Failed) -> Self {
+        OutsideError::Failed
+    }
+}
+
 impl From<AllocError> for OutsideError {
     ghost use Rattle.sz_io.specs.declared.error.OutsideError.TheVariants.{NoMemory};
 

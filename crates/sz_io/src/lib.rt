@@ -14,6 +14,7 @@ mod reading;
 mod sink;
 mod sure_files;
 mod sure_sink;
+mod tries;
 mod words;
 mod writing;
 

@@ -2,13 +2,14 @@
 ghost use Rattle.std.specs.Prelude.{◌≡◌, ◌<◌, ◌≤◌, ℕ, [], length, vec_len};
 ghost use Rattle.std.specs.Prelude.{IsTrue, IfOk, OnErr, IsErrOf, is_err};
 ghost use Rattle.std.specs.Io.KnownBytes.{ReadConsumes};
-ghost use Rattle.sz_io.specs.Rose.{Rose, faults_after};
-ghost use Rattle.sz_io.specs.Opened.{names_after, given_after, faults_after_opening, KeepsFiles, KeepsOtherFiles};
+ghost use Rattle.sz_io.specs.Rose.{Rose, CountsErrors};
+ghost use Rattle.sz_io.specs.Opened.{names_after, given_after, is_failed, KeepsFiles, KeepsOtherFiles};
 
+use crate::tries::{Faults, TRIES};
 use crate::{Failed, Files, OutsideError};
 use std::alloc::Global;
 use std::fs;
-use std::io::{Input, Read};
+use std::io::{self, Input, Read};
 
 /// An opened file, or standard input. It is closed as soon as nothing more is to be read of it.
 #[derive(Drop)]
@@ -22,28 +23,48 @@ enum Source<R: fs::Files + Input> {
 }
 
 impl<R: fs::Files + Input> Source<R> {
-    /// Moves the next bytes to the front of `into`, and tells how many.
-    fn read(&mut self, into: &mut [u8]) -> Result<usize, Failed>
-        ensures within { IfOk result (λ n. n ≤ length into.new) }
+    /// Opens a file, or standard input. A call that a signal interrupts is made up to 100 times.
+    #[tactic(auto, using(crate::proofs::TryLemmas::one_more))]
+    fn open(rt: &R, faults: &mut Faults, name: &str) -> Result<Source<R>, Failed>
+        ensures count { CountsErrors 100 faults.old.count faults.new.count (is_err result) }
     {
-        let given = match self {
-            Source::Standard(reader) => reader.read(into),
-            Source::File(file) => file.read(into),
-            Source::Ended => return Ok(0),
-            Source::Failed => return Err(Failed),
-        };
-        match given {
-            Ok(count) => {
-                if count == 0 && !into.is_empty() {
-                    *self = Source::Ended;
-                }
-                Ok(count)
-            }
-            Err(_) => {
-                *self = Source::Failed;
-                Err(Failed)
+        if name == "-" {
+            return Ok(Source::Standard(rt.reader()));
+        }
+        'tries: for _ in 0..TRIES {
+            match fs::open(rt, name) {
+                Ok(file) => return Ok(Source::File(file)),
+                Err(error) => faults.may_retry(error)?,
             }
         }
+        Err(Failed)
+    }
+
+    /// Moves the next bytes to the front of `into`, and tells how many.
+    fn try_read(&mut self, into: &mut [u8]) -> io::Result<usize>
+        ensures within { IfOk result (λ n. n ≤ length into.new) }
+    {
+        match self {
+            Source::Standard(reader) => reader.read(into),
+            Source::File(file) => file.read(into),
+            Source::Ended => Ok(0),
+            Source::Failed => Err(io::ErrorKind::Other.into()),
+        }
+    }
+
+    /// Moves the next bytes to the front of `into`, and tells how many. A call that a signal interrupts is made up to 100 times.
+    #[tactic(auto, using(crate::proofs::TryLemmas::one_more))]
+    fn read(&mut self, faults: &mut Faults, into: &mut [u8]) -> Result<usize, Failed>
+        ensures within { IfOk result (λ n. n ≤ length into.new) }
+        ensures count { CountsErrors 100 faults.old.count faults.new.count (is_err result) }
+    {
+        'tries: for _ in 0..TRIES {
+            match self.try_read(into) {
+                Ok(count) => return Ok(count),
+                Err(error) => faults.may_retry(error)?,
+            }
+        }
+        Err(Failed)
     }
 }
 
@@ -54,7 +75,7 @@ pub struct OsFiles<'a, R: fs::Files + Input> {
     alloc: Global,
     opened: Vec<Source<R>>,
     names: Vec<String>,
-    faults: u64,
+    faults: Faults,
     ghost named: { vec_len opened ≤ vec_len names },
 }
 
@@ -71,7 +92,7 @@ impl<'a, R: fs::Files + Input> OsFiles<'a, R> {
             alloc,
             opened: Vec::new(alloc),
             names: Vec::new(alloc),
-            faults: 0,
+            faults: Faults::none(),
         }
     }
 }
@@ -89,7 +110,7 @@ impl<R: fs::Files + Input> Files for OsFiles<'_, R> {
 
     ghost faults = { system_faults };
 
-    /// Counts a fault exactly where it answers `Failed`.
+    /// Each error of the system is a fault.
     fn open_file(&mut self, name: &str) -> Result<u32, OutsideError>
         requires { length (system_names self.old) < 128 }
 
@@ -100,21 +121,11 @@ impl<R: fs::Files + Input> Files for OsFiles<'_, R> {
         ensures failed { IsErrOf result OutsideError.Failed → Rose (system_faults self.old) (system_faults self.new) }
         ensures kept { KeepsFiles told_bytes told_left is_opened system_faults self.old self.new }
 
-        ensures count { system_faults self.new ≡ faults_after_opening (system_faults self.old) result }
+        ensures count { CountsErrors 100 (system_faults self.old) (system_faults self.new) (is_failed result) }
     {
         let number = self.opened.len() as u32;
         self.names.push(String::from_str(self.alloc, name)?)?;
-        let source = if name == "-" {
-            Source::Standard(self.rt.reader())
-        } else {
-            match fs::open(self.rt, name) {
-                Ok(file) => Source::File(file),
-                Err(_) => {
-                    self.faults = self.faults.saturating_add(1);
-                    return Err(OutsideError::Failed);
-                }
-            }
-        };
+        let source = Source::open(self.rt, &mut self.faults, name)?;
         if self.opened.push(source).is_err() {
             let _ = self.names.pop();
             return Err(OutsideError::NoMemory);
@@ -122,7 +133,7 @@ impl<R: fs::Files + Input> Files for OsFiles<'_, R> {
         Ok(number)
     }
 
-    /// Counts a fault exactly where it fails.
+    /// Each error of the system is a fault, and so is each read after one that failed.
     fn read(&mut self, file: u32, into: &mut [u8]) -> Result<usize, Failed>
         requires { IsTrue (is_opened self.old file) }
 
@@ -131,11 +142,14 @@ impl<R: fs::Files + Input> Files for OsFiles<'_, R> {
         ensures failed { OnErr result (Rose (system_faults self.old) (system_faults self.new)) }
         ensures kept { KeepsOtherFiles told_bytes told_left is_opened system_names system_faults file self.old self.new }
 
-        ensures count { system_faults self.new ≡ faults_after (system_faults self.old) (is_err result) }
+        ensures count { CountsErrors 100 (system_faults self.old) (system_faults self.new) (is_err result) }
     {
-        let given = self.opened[file as usize].read(into);
-        if given.is_err() {
-            self.faults = self.faults.saturating_add(1);
+        let source = &mut self.opened[file as usize];
+        let given = source.read(&mut self.faults, into);
+        match given {
+            Ok(0) if !into.is_empty() => *source = Source::Ended,
+            Ok(_) => {}
+            Err(Failed) => *source = Source::Failed,
         }
         given
     }

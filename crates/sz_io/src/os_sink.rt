@@ -1,9 +1,10 @@
 //! A sink over a real stream. Nothing is proved of what the stream keeps.
 ghost use Rattle.std.specs.Prelude.{◌≡◌, ◌<◌, ◌≤◌, ℕ, length, None, IfOk, IsErrOf, is_err};
 ghost use Rattle.std.specs.Io.KnownBytes.{WriteAppends};
-ghost use Rattle.sz_io.specs.Rose.{Rose, DoNotFall, faults_after};
+ghost use Rattle.sz_io.specs.Rose.{Rose, DoNotFall, CountsErrors};
 
-use crate::{OutsideError, Sink};
+use crate::tries::{Faults, TRIES};
+use crate::{Failed, OutsideError, Sink};
 use std::io;
 use std::io::Write;
 
@@ -11,7 +12,7 @@ use std::io::Write;
 #[derive(Drop)]
 pub struct OsSink<W: Write + Drop> {
     stream: W,
-    faults: u64,
+    faults: Faults,
 }
 
 impl<W: Write + Drop> OsSink<W> {
@@ -21,7 +22,10 @@ impl<W: Write + Drop> OsSink<W> {
     pub fn new(stream: W) -> OsSink<W>
         ensures no_fault { stream_faults result ≡ 0 }
     {
-        OsSink { stream, faults: 0 }
+        OsSink {
+            stream,
+            faults: Faults::none(),
+        }
     }
 }
 
@@ -34,7 +38,8 @@ impl<W: Write + Drop> Sink for OsSink<W> {
 
     ghost refusals = { λ _. 0 };
 
-    /// Counts a fault exactly where it fails.
+    /// Each error of the stream is a fault. A call that a signal interrupts is made up to 100 times.
+    #[tactic(auto, using(crate::proofs::TryLemmas::of_both))]
     fn write(&mut self, piece: &[u8]) -> Result<usize, OutsideError>
         ensures within { IfOk result (λ n. n ≤ length piece.now) }
         ensures some { IfOk result (λ n. 0 < length piece.now → 0 < n) }
@@ -43,23 +48,41 @@ impl<W: Write + Drop> Sink for OsSink<W> {
         ensures refused { IsErrOf result OutsideError.NoMemory → ⊥ }
         ensures kept { DoNotFall stream_faults (λ _. 0) self.old self.new }
 
-        ensures count { stream_faults self.new ≡ faults_after (stream_faults self.old) (is_err result) }
+        ensures count { CountsErrors 200 (stream_faults self.old) (stream_faults self.new) (is_err result) }
     {
-        match write_through(&mut self.stream, piece) {
-            Ok(count) if count > 0 || piece.is_empty() => Ok(count),
-            _ => {
-                self.faults = self.faults.saturating_add(1);
-                Err(OutsideError::Failed)
-            }
-        }
+        let count = write_some(&mut self.stream, &mut self.faults, piece)?;
+        flush(&mut self.stream, &mut self.faults)?;
+        Ok(count)
     }
 }
 
-/// Writes some of the piece, and lets the stream pass on what it holds.
-fn write_through<W: Write>(stream: &mut W, piece: &[u8]) -> io::Result<usize>
+/// Writes some of the piece.
+#[tactic(auto, using(crate::proofs::TryLemmas::one_more))]
+fn write_some<W: Write>(stream: &mut W, faults: &mut Faults, piece: &[u8]) -> Result<usize, Failed>
     ensures within { IfOk result (λ n. n ≤ length piece.now) }
+    ensures some { IfOk result (λ n. 0 < length piece.now → 0 < n) }
+    ensures count { CountsErrors 100 faults.old.count faults.new.count (is_err result) }
 {
-    let count = stream.write(piece)?;
-    stream.flush()?;
-    Ok(count)
+    'tries: for _ in 0..TRIES {
+        match stream.write(piece) {
+            Ok(0) if !piece.is_empty() => faults.may_retry(io::ErrorKind::WriteZero.into())?,
+            Ok(count) => return Ok(count),
+            Err(error) => faults.may_retry(error)?,
+        }
+    }
+    Err(Failed)
+}
+
+/// Lets the stream pass on what it holds.
+#[tactic(auto, using(crate::proofs::TryLemmas::one_more))]
+fn flush<W: Write>(stream: &mut W, faults: &mut Faults) -> Result<(), Failed>
+    ensures count { CountsErrors 100 faults.old.count faults.new.count (is_err result) }
+{
+    'tries: for _ in 0..TRIES {
+        match stream.flush() {
+            Ok(()) => return Ok(()),
+            Err(error) => faults.may_retry(error)?,
+        }
+    }
+    Err(Failed)
 }
