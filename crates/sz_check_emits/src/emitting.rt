@@ -11,9 +11,15 @@ ghost use Rattle.sz_check_rules.specs.EmittingTrees.{pairs_emit, part_emits, ste
 ghost use Rattle.sz_check_rules.specs.EmittingTrees.{hidden_after, stm_emits, stms_emit, for_emits, when_emits};
 ghost use Rattle.sz_check_emits.specs.Hidden.{hidden_of};
 
-use std::alloc::{AllocError, Global};
+use std::alloc::AllocError;
 use sz_check_names::{Known, Means, Site};
 use sz_tree::{Expr, First, Name, Pair, Quantifier, Quantity, Simple, Step, Stmt};
+
+// The names that variables hide.
+type Hidden<'t> = Vec<&'t Name>;
+
+// Whether a statement emits, unless memory ran out.
+type Emits = Result<bool, AllocError>;
 
 // Whether a name calls what emits, by what it stands for.
 fn means_emitting(means: Option<Means<'_>>) -> bool
@@ -158,11 +164,7 @@ fn between_emits(known: &Known, hidden: &[&Name], tree: &Option<Simple>) -> bool
 }
 
 // Hides the name of a variable after what was found of its value.
-fn hide_after<'t>(
-    emits: bool,
-    hidden: &mut Vec<&'t Name>,
-    name: &'t Name,
-) -> Result<bool, AllocError>
+fn hide_after<'t>(emits: bool, hidden: &mut Hidden<'t>, name: &'t Name) -> Emits
     ensures value { IfOk result (λ same. same ≡ emits) }
     ensures hidden { OnOk result (hidden_of hidden.new.items ≡ hidden_of hidden.old.items ++ name.now.text ∷ []) }
 {
@@ -171,11 +173,7 @@ fn hide_after<'t>(
 }
 
 // Whether the first part of a `for` can emit. Its variable's name is hidden after it.
-fn first_emits<'t>(
-    known: &Known,
-    hidden: &mut Vec<&'t Name>,
-    first: &'t Option<First>,
-) -> Result<bool, AllocError>
+fn first_emits<'t>(known: &Known, hidden: &mut Hidden<'t>, first: &'t Option<First>) -> Emits
     ensures value { IfOk result (λ emits. emits ≡ first_emits (emits_by (blocks_of known.now)) (hidden_of hidden.old.items) (option_map first_of first.now)) }
     ensures hidden { OnOk result (hidden_of hidden.new.items ≡ hidden_after_first (hidden_of hidden.old.items) (option_map first_of first.now)) }
 {
@@ -189,7 +187,7 @@ fn first_emits<'t>(
 }
 
 // Hides these names.
-fn hide_names<'t>(hidden: &mut Vec<&'t Name>, names: &'t [Name]) -> Result<(), AllocError>
+fn hide_names<'t>(hidden: &mut Hidden<'t>, names: &'t [Name]) -> Result<(), AllocError>
     ensures ok { OnOk result (hidden_of hidden.new.items ≡ hidden_of hidden.old.items ++ texts_of names.now) }
 {
     for name in names {
@@ -210,7 +208,7 @@ pub fn is_seen_inside(quantity: Quantity) -> bool
 
 // Hides the names that quantifiers declare: in the condition all, and inside those that the statement inside sees.
 fn hide_quantified<'t>(
-    hidden: &mut Vec<&'t Name>,
+    hidden: &mut Hidden<'t>,
     quantifiers: &'t [Quantifier],
     inside: bool,
 ) -> Result<(), AllocError>
@@ -227,11 +225,7 @@ fn hide_quantified<'t>(
 // Whether the statement can emit. A variable that it declares is hidden after it.
 #[cycle(stm_emits)]
 #[tactic(auto, unfolding(sz_check_rules::specs::EmittingTrees::stm_emits), using(sz_tree::proofs::RowLemmas::stm_of_block))]
-fn stm_emits<'t>(
-    known: &Known,
-    hidden: &mut Vec<&'t Name>,
-    tree: &'t Stmt,
-) -> Result<bool, AllocError>
+fn stm_emits<'t>(known: &Known, hidden: &mut Hidden<'t>, tree: &'t Stmt) -> Emits
     ensures value { IfOk result (λ emits. emits ≡ stm_emits (emits_by (blocks_of known.now)) (hidden_of hidden.old.items) (stm_of tree.now)) }
     ensures hidden { OnOk result (hidden_of hidden.new.items ≡ hidden_after (hidden_of hidden.old.items) (stm_of tree.now)) }
 {
@@ -274,11 +268,7 @@ fn stm_emits<'t>(
 
 // Whether a part statement can emit.
 #[cycle(stm_emits)]
-fn inside_emits<'t>(
-    known: &Known,
-    hidden: &mut Vec<&'t Name>,
-    tree: &'t Stmt,
-) -> Result<bool, AllocError>
+fn inside_emits<'t>(known: &Known, hidden: &mut Hidden<'t>, tree: &'t Stmt) -> Emits
     ensures value { IfOk result (λ emits. emits ≡ stm_emits (emits_by (blocks_of known.now)) (hidden_of hidden.old.items) (stm_of tree.now)) }
     ensures kept { OnOk result (hidden_of hidden.new.items ≡ hidden_of hidden.old.items) }
 {
@@ -290,12 +280,7 @@ fn inside_emits<'t>(
 
 // Whether a test or the statement after it can emit.
 #[cycle(stm_emits)]
-fn tested_emits<'t>(
-    known: &Known,
-    hidden: &mut Vec<&'t Name>,
-    body: &'t Stmt,
-    test: &Expr,
-) -> Result<bool, AllocError>
+fn tested_emits<'t>(known: &Known, hidden: &mut Hidden<'t>, body: &'t Stmt, test: &Expr) -> Emits
     ensures value { IfOk result (λ emits. emits ≡ (exp_emits (emits_by (blocks_of known.now)) (hidden_of hidden.old.items) (tree_of test.now)
         || stm_emits (emits_by (blocks_of known.now)) (hidden_of hidden.old.items) (stm_of body.now))) }
     ensures kept { OnOk result (hidden_of hidden.new.items ≡ hidden_of hidden.old.items) }
@@ -307,11 +292,7 @@ fn tested_emits<'t>(
 
 // Whether one of the statements of a block can emit.
 #[cycle(stm_emits)]
-fn block_emits<'t>(
-    known: &Known,
-    hidden: &mut Vec<&'t Name>,
-    trees: &'t [Stmt],
-) -> Result<bool, AllocError>
+fn block_emits<'t>(known: &Known, hidden: &mut Hidden<'t>, trees: &'t [Stmt]) -> Emits
     ensures value { IfOk result (λ emits. emits ≡ stms_emit (emits_by (blocks_of known.now)) (hidden_of hidden.old.items) (stms_of (each stm_of trees.now))) }
     ensures kept { OnOk result (hidden_of hidden.new.items ≡ hidden_of hidden.old.items) }
 {
@@ -325,12 +306,12 @@ fn block_emits<'t>(
 #[cycle(stm_emits)]
 fn for_emits<'t>(
     known: &Known,
-    hidden: &mut Vec<&'t Name>,
+    hidden: &mut Hidden<'t>,
     body: &'t Stmt,
     first: &'t Option<First>,
     test: &Option<Expr>,
     between: &Option<Simple>,
-) -> Result<bool, AllocError>
+) -> Emits
     ensures value { IfOk result (λ emits. emits ≡ for_emits (emits_by (blocks_of known.now)) (hidden_of hidden.old.items)
         (option_map first_of first.now) (option_map tree_of test.now) (option_map simple_of between.now) (stm_of body.now)) }
     ensures kept { OnOk result (hidden_of hidden.new.items ≡ hidden_of hidden.old.items) }
@@ -348,11 +329,11 @@ fn for_emits<'t>(
 #[cycle(stm_emits)]
 fn when_emits<'t>(
     known: &Known,
-    hidden: &mut Vec<&'t Name>,
+    hidden: &mut Hidden<'t>,
     body: &'t Stmt,
     quantifiers: &'t [Quantifier],
     test: &Expr,
-) -> Result<bool, AllocError>
+) -> Emits
     ensures value { IfOk result (λ emits. emits ≡ when_emits (emits_by (blocks_of known.now)) (hidden_of hidden.old.items)
         (each quantifier_of quantifiers.now) (tree_of test.now) (stm_of body.now)) }
     ensures kept { OnOk result (hidden_of hidden.new.items ≡ hidden_of hidden.old.items) }
@@ -369,11 +350,7 @@ fn when_emits<'t>(
 
 // Whether one of the statements can emit. The variables that they declare are hidden after them.
 #[cycle(stm_emits)]
-fn stms_emit<'t>(
-    known: &Known,
-    hidden: &mut Vec<&'t Name>,
-    trees: &'t [Stmt],
-) -> Result<bool, AllocError>
+fn stms_emit<'t>(known: &Known, hidden: &mut Hidden<'t>, trees: &'t [Stmt]) -> Emits
     ensures value { IfOk result (λ emits. emits ≡ stms_emit (emits_by (blocks_of known.now)) (hidden_of hidden.old.items) (stms_of (each stm_of trees.now))) }
     ensures front { OnOk result (take (length hidden.old.items) (hidden_of hidden.new.items) ≡ hidden_of hidden.old.items) }
 {
@@ -387,15 +364,10 @@ fn stms_emit<'t>(
 
 /// Whether a function with this name and these statements emits, where what it sees is known, its parameters too. A call of
 /// itself adds nothing.
-pub fn body_emits(
-    alloc: Global,
-    known: &Known,
-    name: &Name,
-    trees: &[Stmt],
-) -> Result<bool, AllocError>
+pub fn body_emits(known: &Known, name: &Name, trees: &[Stmt]) -> Result<bool, AllocError>
     ensures value { IfOk result (λ emits. emits ≡ stms_emit (emits_by (blocks_of known.now)) (name.now.text ∷ []) (stms_of (each stm_of trees.now))) }
 {
-    let mut hidden = Vec::new(alloc);
+    let mut hidden = Vec::new(known.alloc());
     hidden.push(name)?;
     stms_emit(known, &mut hidden, trees)
 }

@@ -11,7 +11,7 @@ ghost use Rattle.sz_check_names.specs.Knowledge.{blocks_of};
 ghost use Rattle.sz_check_names.specs.Outcome.{Judges, Stops};
 
 use std::alloc::{AllocError, Global};
-use sz_check_names::{Cause, JudgeError, Known, beside, judge_type};
+use sz_check_names::{Cause, JudgeError, Known, Verdict, beside, judge_type};
 use sz_core::is_allowed;
 use sz_tree::{Elem, Name, Table};
 use sz_types::{TableDecl, TableKind, Text, Ty, Tys};
@@ -40,7 +40,7 @@ fn no_kind(alloc: Global, name: &Name) -> JudgeError
 }
 
 // The kind of table that a word is.
-fn kind_of(alloc: Global, name: &Name) -> Result<TableKind, JudgeError>
+fn kind_of(alloc: Global, name: &Name) -> Verdict<TableKind>
     ensures value { Judges (λ x. x) result (kind_of name.now) }
 {
     let word = name.text().as_bytes();
@@ -86,23 +86,23 @@ fn limit_of(kind: TableKind, argument: Option<i64>) -> Option<u64>
 }
 
 // The types of a table's indexes, in order.
-fn judge_elems(alloc: Global, known: &Known, trees: &[Elem]) -> Result<Vec<Ty>, JudgeError>
+fn judge_elems(known: &Known, trees: &[Elem]) -> Verdict<Vec<Ty>>
     ensures value { Judges (λ made. each seen made.items) result (judge_elems (blocks_of known.now) (each elem_of trees.now)) }
 {
-    let mut types = Vec::new(alloc);
+    let mut types = Vec::new(known.alloc());
     for tree in trees {
-        let ty = judge_type(alloc, known, &tree.of)?;
+        let ty = judge_type(known, &tree.of)?;
         types.push(ty)?;
     }
     Ok(types)
 }
 
 // The type of a table's weights, where it has them.
-fn judge_weight(alloc: Global, known: &Known, tree: &Option<Elem>) -> Result<Option<Ty>, JudgeError>
+fn judge_weight(known: &Known, tree: &Option<Elem>) -> Verdict<Option<Ty>>
     ensures value { Judges (option_map seen) result (judge_weight (blocks_of known.now) (option_map elem_of tree.now)) }
 {
     match tree {
-        Some(tree) => Ok(Some(judge_type(alloc, known, &tree.of)?)),
+        Some(tree) => Ok(Some(judge_type(known, &tree.of)?)),
         None => Ok(None),
     }
 }
@@ -116,12 +116,12 @@ struct Types {
 }
 
 // The types of the indexes, of the element and of the weights, in this order.
-fn judge_types(alloc: Global, known: &Known, tree: &Table) -> Result<Types, JudgeError>
+fn judge_types(known: &Known, tree: &Table) -> Verdict<Types>
     ensures value { Judges types_of result (judge_types (blocks_of known.now) (table_of tree.now)) }
 {
-    let indexes = judge_elems(alloc, known, tree.indexes.as_slice())?;
-    let (element, indexes) = beside(judge_type(alloc, known, &tree.of.of), indexes)?;
-    let weight = judge_weight(alloc, known, &tree.weight);
+    let indexes = judge_elems(known, tree.indexes.as_slice())?;
+    let (element, indexes) = beside(judge_type(known, &tree.of.of), indexes)?;
+    let weight = judge_weight(known, &tree.weight);
     let (weight, (indexes, element)) = beside(weight, (indexes, element))?;
     Ok(Types {
         indexes: Tys::from_vec(indexes),
@@ -131,7 +131,7 @@ fn judge_types(alloc: Global, known: &Known, tree: &Table) -> Result<Types, Judg
 }
 
 // The limit as a declaration keeps it, or the refusal where it is wrong, or too large for each kind.
-fn kept_limit(word: &Name, limit: Option<u64>) -> Result<u32, JudgeError>
+fn kept_limit(word: &Name, limit: Option<u64>) -> Verdict<u32>
     ensures value { IsLimit word.now limit result }
 {
     match limit {
@@ -166,7 +166,7 @@ fn made_table(
 }
 
 // The table, if its kind allows it.
-fn allowed(word: &Name, table: TableDecl) -> Result<TableDecl, JudgeError>
+fn allowed(word: &Name, table: TableDecl) -> Verdict<TableDecl>
     ensures value { Judges seen_table result (allowed word.now (seen_table table)) }
 {
     if is_allowed(&table) {
@@ -177,16 +177,12 @@ fn allowed(word: &Name, table: TableDecl) -> Result<TableDecl, JudgeError>
 }
 
 /// The declaration of a table, or its first refusal: that of its kind, of its types, or that of a bad table where these don't go together.
-pub fn judge_table_declaration(
-    alloc: Global,
-    known: &Known,
-    name: &Name,
-    tree: &Table,
-) -> Result<TableDecl, JudgeError>
+pub fn judge_table_declaration(known: &Known, name: &Name, tree: &Table) -> Verdict<TableDecl>
     ensures value { Judges seen_table result (judge_table_declaration (blocks_of known.now) name.now (table_of tree.now)) }
 {
+    let alloc = known.alloc();
     let kind = kind_of(alloc, &tree.kind)?;
-    let types = judge_types(alloc, known, tree)?;
+    let types = judge_types(known, tree)?;
     let limit = kept_limit(&tree.kind, limit_of(kind, tree.argument));
     let (limit, types) = beside(limit, types)?;
     allowed(&tree.kind, made_table(alloc, name, kind, limit, types)?)

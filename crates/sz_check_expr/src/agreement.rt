@@ -14,13 +14,13 @@ use crate::asks::Asks;
 use crate::path::conversion_node;
 use crate::rows::alike;
 use std::alloc::Global;
-use sz_check_names::{Cause, JudgeError};
+use sz_check_names::{Cause, JudgeError, Verdict};
 use sz_core::{CoreExpr, CorePair};
 use sz_tree::{Expr, Pair};
 use sz_types::{Place, Ty, copy_ty};
 
 // Nothing is refused where the test holds; else the expression has the wrong type.
-pub fn fits(holds: bool, tree: &Expr) -> Result<(), JudgeError>
+pub fn fits(holds: bool, tree: &Expr) -> Verdict<()>
     ensures value { Judges (λ x. x) result (fits holds (tree_of tree.now)) }
 {
     if holds {
@@ -31,7 +31,7 @@ pub fn fits(holds: bool, tree: &Expr) -> Result<(), JudgeError>
 }
 
 /// The expression has the type that is asked, if one is; else a wrong type, at the expression.
-pub fn agrees(asked: Option<&Ty>, tree: &Expr, node: &CoreExpr) -> Result<(), JudgeError>
+pub fn agrees(asked: Option<&Ty>, tree: &Expr, node: &CoreExpr) -> Verdict<()>
     ensures value { Judges (λ x. x) result (agrees (asked_of asked.entry) (tree_of tree.now) (node_of node.now)) }
 {
     match asked {
@@ -41,7 +41,7 @@ pub fn agrees(asked: Option<&Ty>, tree: &Expr, node: &CoreExpr) -> Result<(), Ju
 }
 
 /// Each expression has the type that is asked of it, as far as types are asked; else a wrong type, at the first that hasn't.
-pub fn agree(asks: Asks<'_>, trees: &[Expr], nodes: &[CoreExpr]) -> Result<(), JudgeError>
+pub fn agree(asks: Asks<'_>, trees: &[Expr], nodes: &[CoreExpr]) -> Verdict<()>
     ensures value { Judges (λ x. x) result
         (agree (asks_of asks.entry) (exps_of (each tree_of trees.now)) (nodes_of (each node_of nodes.now))) }
 {
@@ -54,12 +54,7 @@ pub fn agree(asks: Asks<'_>, trees: &[Expr], nodes: &[CoreExpr]) -> Result<(), J
 }
 
 // The same of keys and values.
-pub fn pairs_agree(
-    key: &Ty,
-    value: &Ty,
-    trees: &[Pair],
-    nodes: &[CorePair],
-) -> Result<(), JudgeError>
+pub fn pairs_agree(key: &Ty, value: &Ty, trees: &[Pair], nodes: &[CorePair]) -> Verdict<()>
     ensures value { Judges (λ x. x) result
         (pairs_agree (seen key.now) (seen value.now) (pairs_of (each pair_of trees.now))
         (pairings_of (each pairing_of nodes.now))) }
@@ -74,7 +69,7 @@ pub fn pairs_agree(
 
 /// There are just so many expressions; else a wrong count, at the place.
 #[tactic(auto, using(crate::proofs::ListLemmas::count_is))]
-pub fn counted(count: usize, trees: &[Expr], place: Place) -> Result<(), JudgeError>
+pub fn counted(count: usize, trees: &[Expr], place: Place) -> Verdict<()>
     ensures value { Judges (λ x. x) result (counted count (exps_of (each tree_of trees.now)) place) }
 {
     if trees.len() == count {
@@ -85,12 +80,7 @@ pub fn counted(count: usize, trees: &[Expr], place: Place) -> Result<(), JudgeEr
 }
 
 /// A value of the type that a declaration has: as it is, or converted; else a wrong type, at the value.
-pub fn converted(
-    alloc: Global,
-    ty: &Ty,
-    tree: &Expr,
-    node: CoreExpr,
-) -> Result<CoreExpr, JudgeError>
+pub fn converted(alloc: Global, ty: &Ty, tree: &Expr, node: CoreExpr) -> Verdict<CoreExpr>
     ensures value { Judges node_of result (converted (seen ty.now) (tree_of tree.now) (node_of node)) }
 {
     if alike(&node.ty, ty) {

@@ -19,13 +19,13 @@ use crate::agreement::{agree, counted, fits};
 use crate::asks::Asks;
 use crate::rows::{builtin_row, has_elements, has_keys_of, is_found_in, is_map, is_searched_for};
 use std::alloc::Global;
-use sz_check_names::{Cause, JudgeError, Means};
+use sz_check_names::{Cause, JudgeError, Means, Verdict};
 use sz_core::{CoreExpr, Form, Signature};
 use sz_tree::{Expr, Name};
 use sz_types::{Builtin, Place, Ty, converts, copy_ty};
 
 // A name as a value.
-pub fn variable_node(alloc: Global, name: &Name, means: Means<'_>) -> Result<CoreExpr, JudgeError>
+pub fn variable_node(alloc: Global, name: &Name, means: Means<'_>) -> Verdict<CoreExpr>
     ensures value { Judges node_of result (variable_node name.now (means_of means.entry)) }
 {
     let (ty, form) = match means {
@@ -49,13 +49,13 @@ pub enum Callee<'k> {
 }
 
 // What the name calls.
-pub fn callee_of<'k>(alloc: Global, name: &Name, means: Means<'k>) -> Result<Callee<'k>, JudgeError>
+pub fn callee_of<'k>(alloc: Global, name: &Name, means: Means<'k>) -> Verdict<Callee<'k>>
     ensures value { Judges callee_seen result (callee_of name.now (means_of means.entry)) }
 {
     match means {
         Means::Function(number, signature) => Ok(Callee::Declared(number, signature)),
         Means::Predeclared(builtin) => Ok(Callee::Predeclared(builtin)),
-        Means::Type(named) => Ok(Callee::Conversion(named.write_out(alloc)?)),
+        Means::Type(named) => Ok(Callee::Conversion(named.write_out()?)),
         _ => Err(JudgeError::of(alloc, Cause::WrongKind, name)),
     }
 }
@@ -81,12 +81,7 @@ fn arity(function: Builtin) -> usize
 }
 
 // The arguments of `haskey`, the first of which is there.
-fn key_fits(
-    tree: &Expr,
-    trees: &[Expr],
-    node: &CoreExpr,
-    nodes: &[CoreExpr],
-) -> Result<(), JudgeError>
+fn key_fits(tree: &Expr, trees: &[Expr], node: &CoreExpr, nodes: &[CoreExpr]) -> Verdict<()>
     ensures value { Judges (λ x. x) result
         (arguments_fit HasKey (more (tree_of tree.now) (exps_of (each tree_of trees.now)))
         (with_node (node_of node.now) (nodes_of (each node_of nodes.now)))) }
@@ -102,12 +97,7 @@ fn key_fits(
 }
 
 // The arguments of `strfind`, the first of which is there.
-fn part_fits(
-    tree: &Expr,
-    trees: &[Expr],
-    node: &CoreExpr,
-    nodes: &[CoreExpr],
-) -> Result<(), JudgeError>
+fn part_fits(tree: &Expr, trees: &[Expr], node: &CoreExpr, nodes: &[CoreExpr]) -> Verdict<()>
     ensures value { Judges (λ x. x) result
         (arguments_fit StrFind (more (tree_of tree.now) (exps_of (each tree_of trees.now)))
         (with_node (node_of node.now) (nodes_of (each node_of nodes.now)))) }
@@ -123,9 +113,8 @@ fn part_fits(
 }
 
 // The arguments of a predeclared function have types that it takes, as far as they are there.
-fn arguments_fit(function: Builtin, trees: &[Expr], nodes: &[CoreExpr]) -> Result<(), JudgeError>
-    ensures value { Judges (λ x. x) result
-        (arguments_fit function (exps_of (each tree_of trees.now)) (nodes_of (each node_of nodes.now))) }
+fn arguments_fit(function: Builtin, trees: &[Expr], nodes: &[CoreExpr]) -> Verdict<()>
+    ensures value { Judges (λ x. x) result (arguments_fit function (exps_of (each tree_of trees.now)) (nodes_of (each node_of nodes.now))) }
 {
     let [tree, trees @ ..] = trees else {
         return Ok(());
@@ -150,7 +139,7 @@ fn declared_call(
     signature: &Signature,
     trees: &[Expr],
     nodes: Vec<CoreExpr>,
-) -> Result<CoreExpr, JudgeError>
+) -> Verdict<CoreExpr>
     ensures value { Judges node_of result
         (declared_call may_emit name.now number (signature_of signature.now) (exps_of (each tree_of trees.now))
         (nodes_of (each node_of nodes.items))) }
@@ -174,7 +163,7 @@ fn predeclared_call(
     function: Builtin,
     trees: &[Expr],
     nodes: Vec<CoreExpr>,
-) -> Result<CoreExpr, JudgeError>
+) -> Verdict<CoreExpr>
     ensures value { Judges node_of result
         (predeclared_call name.now function (exps_of (each tree_of trees.now)) (nodes_of (each node_of nodes.items))) }
 {
@@ -197,7 +186,7 @@ fn first_converts(
     trees: &[Expr],
     nodes: &[CoreExpr],
     is_single: bool,
-) -> Result<(), JudgeError>
+) -> Verdict<()>
     ensures value { Judges (λ x. x) result
         (first_converts place (seen ty.now) (exps_of (each tree_of trees.now)) (nodes_of (each node_of nodes.now)) is_single) }
 {
@@ -216,12 +205,7 @@ fn first_converts(
 }
 
 // The first of these, converted to the type.
-fn first_converted(
-    alloc: Global,
-    place: Place,
-    ty: Ty,
-    nodes: Vec<CoreExpr>,
-) -> Result<CoreExpr, JudgeError>
+fn first_converted(alloc: Global, place: Place, ty: Ty, nodes: Vec<CoreExpr>) -> Verdict<CoreExpr>
     ensures value { Judges node_of result (first_converted place (seen ty) (nodes_of (each node_of nodes.items))) }
 {
     match nodes.into_iter().next() {
@@ -241,7 +225,7 @@ fn conversion_call(
     ty: Ty,
     trees: &[Expr],
     nodes: Vec<CoreExpr>,
-) -> Result<CoreExpr, JudgeError>
+) -> Verdict<CoreExpr>
     ensures value { Judges node_of result
         (conversion_call name.now (seen ty) (exps_of (each tree_of trees.now)) (nodes_of (each node_of nodes.items))) }
 {
@@ -259,7 +243,7 @@ pub fn made_call(
     callee: Callee<'_>,
     trees: &[Expr],
     nodes: Vec<CoreExpr>,
-) -> Result<CoreExpr, JudgeError>
+) -> Verdict<CoreExpr>
     ensures value { Judges node_of result
         (made_call may_emit name.now (callee_seen callee.entry) (exps_of (each tree_of trees.now))
         (nodes_of (each node_of nodes.items))) }

@@ -14,7 +14,7 @@ ghost use Rattle.sz_check_names.specs.Outcome.{Judges};
 use crate::agreement::{agree, counted, pairs_agree};
 use crate::asks::Asks;
 use std::alloc::Global;
-use sz_check_names::{Cause, JudgeError};
+use sz_check_names::{Cause, JudgeError, Verdict};
 use sz_core::{CoreExpr, CorePair, Form};
 use sz_tree::{Expr, Pair};
 use sz_types::{Field, Kind, Place, Ty, copy_ty, type_kind};
@@ -43,7 +43,7 @@ fn tuple_of(
     fields: &[Field],
     trees: &[Expr],
     nodes: Vec<CoreExpr>,
-) -> Result<CoreExpr, JudgeError>
+) -> Verdict<CoreExpr>
     ensures value { Judges node_of result
         (tuple_of place (seen ty.now) (fields_of (each seen_field fields.now)) (exps_of (each tree_of trees.now))
         (nodes_of (each node_of nodes.items))) }
@@ -63,7 +63,7 @@ fn made_tuple(
     fields: &[Field],
     trees: &[Expr],
     nodes: Vec<CoreExpr>,
-) -> Result<CoreExpr, JudgeError>
+) -> Verdict<CoreExpr>
     ensures value { Judges node_of result
         (made_tuple place (seen ty.now) (fields_of (each seen_field fields.now)) (exps_of (each tree_of trees.now))
         (nodes_of (each node_of nodes.items))) }
@@ -82,7 +82,7 @@ fn made_array(
     element: &Ty,
     trees: &[Expr],
     nodes: Vec<CoreExpr>,
-) -> Result<CoreExpr, JudgeError>
+) -> Verdict<CoreExpr>
     ensures value { Judges node_of result
         (made_array place (seen element.now) (exps_of (each tree_of trees.now)) (nodes_of (each node_of nodes.items))) }
 {
@@ -99,7 +99,7 @@ pub fn made_list(
     asked: Option<&Ty>,
     trees: &[Expr],
     nodes: Vec<CoreExpr>,
-) -> Result<CoreExpr, JudgeError>
+) -> Verdict<CoreExpr>
     ensures value { Judges node_of result
         (made_list place (asked_of asked.entry) (exps_of (each tree_of trees.now)) (nodes_of (each node_of nodes.items))) }
 {
@@ -142,7 +142,7 @@ pub fn made_mapping(
     asked: Option<&Ty>,
     trees: &[Pair],
     nodes: Vec<CorePair>,
-) -> Result<CoreExpr, JudgeError>
+) -> Verdict<CoreExpr>
     ensures value { Judges node_of result
         (made_mapping place (asked_of asked.entry) (pairs_of (each pair_of trees.now))
         (pairings_of (each pairing_of nodes.items))) }

@@ -12,7 +12,7 @@ ghost use Rattle.sz_check_names.specs.Outcome.{Judges};
 use crate::agreement::fits;
 use crate::rows::{alike, binary_row, unary_row};
 use std::alloc::Global;
-use sz_check_names::{Cause, JudgeError};
+use sz_check_names::{Cause, JudgeError, Verdict};
 use sz_core::{CoreExpr, Form};
 use sz_tree::{BinaryOp, Expr, UnaryOp};
 use sz_types::{BinOp, Kind, Place, Ty, UnOp, type_kind};
@@ -30,12 +30,7 @@ fn unary_of(op: UnaryOp) -> UnOp
 }
 
 // An operator before its operand.
-pub fn made_unary(
-    place: Place,
-    op: UnaryOp,
-    tree: &Expr,
-    node: Box<CoreExpr>,
-) -> Result<CoreExpr, JudgeError>
+pub fn made_unary(place: Place, op: UnaryOp, tree: &Expr, node: Box<CoreExpr>) -> Verdict<CoreExpr>
     ensures value { Judges node_of result (made_unary place op (tree_of tree.now) (node_of node.value)) }
 {
     match unary_row(unary_of(op), &node.ty) {
@@ -135,7 +130,7 @@ fn made_operator(
     right: &Expr,
     first: Box<CoreExpr>,
     second: Box<CoreExpr>,
-) -> Result<CoreExpr, JudgeError>
+) -> Verdict<CoreExpr>
     ensures value { Judges node_of result
         (made_operator place op (tree_of left.now) (tree_of right.now) (node_of first.value) (node_of second.value)) }
 {
@@ -152,7 +147,7 @@ fn made_operator(
 }
 
 /// An expression that has to be a truth value; else a wrong type, at the expression.
-pub fn test(tree: &Expr, node: &CoreExpr) -> Result<(), JudgeError>
+pub fn test(tree: &Expr, node: &CoreExpr) -> Verdict<()>
     ensures value { Judges (λ x. x) result (test (tree_of tree.now) (node_of node.now)) }
 {
     fits(alike(&node.ty, &Ty::Bool), tree)
@@ -167,7 +162,7 @@ pub fn made_binary(
     right: &Expr,
     first: Box<CoreExpr>,
     second: Box<CoreExpr>,
-) -> Result<CoreExpr, JudgeError>
+) -> Verdict<CoreExpr>
     ensures value { Judges node_of result
         (made_binary place (operation_of op) (tree_of left.now) (tree_of right.now) (node_of first.value) (node_of second.value)) }
 {

@@ -14,18 +14,13 @@ ghost use Rattle.sz_check_names.specs.Outcome.{Judges};
 use crate::agreement::fits;
 use crate::rows::{alike, has_elements, has_slices, index_row};
 use std::alloc::Global;
-use sz_check_names::{Cause, JudgeError, small};
+use sz_check_names::{Cause, JudgeError, Verdict, small};
 use sz_core::{CoreExpr, Form};
 use sz_tree::{Expr, Name};
 use sz_types::{Field, Kind, Place, Ty, converts, copy_ty, type_kind};
 
 // A conversion at this place of an expression to a type.
-pub fn conversion_node(
-    place: Place,
-    ty: Ty,
-    tree: &Expr,
-    node: Box<CoreExpr>,
-) -> Result<CoreExpr, JudgeError>
+pub fn conversion_node(place: Place, ty: Ty, tree: &Expr, node: Box<CoreExpr>) -> Verdict<CoreExpr>
     ensures value { Judges node_of result (conversion_node place (seen ty) (tree_of tree.now) (node_of node.value)) }
 {
     if !converts(&node.ty, &ty) {
@@ -43,7 +38,7 @@ pub fn made_index(
     index: &Expr,
     node: Box<CoreExpr>,
     at_node: Box<CoreExpr>,
-) -> Result<CoreExpr, JudgeError>
+) -> Verdict<CoreExpr>
     ensures value { Judges node_of result
         (made_index place (tree_of tree.now) (tree_of index.now) (node_of node.value) (node_of at_node.value)) }
 {
@@ -60,7 +55,7 @@ pub fn made_index(
 }
 
 /// An expression that has to be a whole number; else a wrong type, at the expression.
-pub fn whole(tree: &Expr, node: &CoreExpr) -> Result<(), JudgeError>
+pub fn whole(tree: &Expr, node: &CoreExpr) -> Verdict<()>
     ensures value { Judges (λ x. x) result (whole (tree_of tree.now) (node_of node.now)) }
 {
     fits(alike(&node.ty, &Ty::Int), tree)
@@ -76,7 +71,7 @@ pub fn made_slice(
     node: Box<CoreExpr>,
     first: Box<CoreExpr>,
     last: Box<CoreExpr>,
-) -> Result<CoreExpr, JudgeError>
+) -> Verdict<CoreExpr>
     ensures value { Judges node_of result
         (made_slice place (tree_of tree.now) (tree_of from.now) (tree_of to.now) (node_of node.value) (node_of first.value)
         (node_of last.value)) }
@@ -110,7 +105,7 @@ pub fn field_in<'t>(
     place: Place,
     ty: &'t Ty,
     name: &Name,
-) -> Result<(usize, &'t Ty), JudgeError>
+) -> Verdict<(usize, &'t Ty)>
     ensures value { Judges found_of result (field_in place (seen ty.now) name.now) }
 {
     let (Kind::Tuple(fields) | Kind::Proto(fields)) = type_kind(ty) else {
@@ -129,7 +124,7 @@ pub fn made_field(
     tree: &Expr,
     node: Box<CoreExpr>,
     name: &Name,
-) -> Result<CoreExpr, JudgeError>
+) -> Verdict<CoreExpr>
     ensures value { Judges node_of result (made_field place (tree_of tree.now) (node_of node.value) name.now) }
 {
     let (number, ty) = field_in(alloc, tree.place(), &node.ty, name)?;

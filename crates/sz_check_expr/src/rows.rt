@@ -222,8 +222,7 @@ pub fn builtin_row(
     function: Builtin,
     arguments: &[CoreExpr],
 ) -> Result<Option<Ty>, AllocError>
-    ensures value { IfOk result
-        (λ row. option_map seen row ≡ builtin_row function (types_of (nodes_of (each node_of arguments.now)))) }
+    ensures value { IfOk result (λ row. option_map seen row ≡ builtin_row function (types_of (nodes_of (each node_of arguments.now)))) }
 {
     let [first, others @ ..] = arguments else {
         return Ok(None);

@@ -9,6 +9,9 @@ use sz_check_rules::Cause;
 use sz_tree::Name;
 use sz_types::{Place, Text};
 
+/// What a tree is judged to be, or why it is refused.
+pub type Verdict<T> = Result<T, JudgeError>;
+
 /// Why `check` gives no program.
 #[derive(Drop)]
 pub enum JudgeError {

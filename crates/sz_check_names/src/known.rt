@@ -11,7 +11,7 @@ ghost use Rattle.sz_check_names.specs.Keeping.{floor_of, place_of, placed, sight
 ghost use Rattle.sz_check_names.specs.Written.{shape_in};
 ghost use Rattle.sz_scope.specs.declared.sight.Sight.TheVariants as sights;
 
-use crate::error::JudgeError;
+use crate::error::{JudgeError, Verdict};
 use crate::field_names::{is_new, one_block};
 use crate::meaning::{Meaning, Means};
 use crate::number::small;
@@ -230,23 +230,18 @@ impl Known {
 
     /// What the name stands for, or the refusal of an unknown name, or of one that is left out of the language, where
     /// nothing that is seen has it. The value of a static sees less than a statement.
-    pub fn look_up(&self, alloc: Global, site: Site, name: &Name) -> Result<Means<'_>, JudgeError>
+    pub fn look_up(&self, site: Site, name: &Name) -> Verdict<Means<'_>>
         ensures value { Judges means_of result (look_up name.now (blocks_for self.now site)) }
         ensures types { IfOk result (IsOfTypes self.now.outside.types) }
     {
         match self.find(site, name) {
             Some(means) => Ok(means),
-            None => Err(unseen(alloc, name)),
+            None => Err(unseen(self.types.alloc(), name)),
         }
     }
 
     /// A name more in the innermost block, or the refusal `declared twice`.
-    pub fn declare(
-        &mut self,
-        alloc: Global,
-        name: &Name,
-        meaning: Meaning,
-    ) -> Result<(), JudgeError>
+    pub fn declare(&mut self, name: &Name, meaning: Meaning) -> Verdict<()>
         requires typed { IsTyped (length self.old.outside.types) meaning }
         ensures value { Judges (λ _. blocks_of self.new) result
             (declare name.now (meaning_of self.old.outside.types meaning) (blocks_of self.old)) }
@@ -257,17 +252,12 @@ impl Known {
         if self.put(name.text().as_str(), meaning)? {
             Ok(())
         } else {
-            Err(JudgeError::of(alloc, Cause::Redeclared, name))
+            Err(JudgeError::of(self.types.alloc(), Cause::Redeclared, name))
         }
     }
 
     /// A type by its name, as it is written, or the refusal `declared twice`.
-    pub fn declare_type(
-        &mut self,
-        alloc: Global,
-        name: &Name,
-        written: Written,
-    ) -> Result<(), JudgeError>
+    pub fn declare_type(&mut self, name: &Name, written: Written) -> Verdict<()>
         ensures value { Judges (λ _. blocks_of self.new) result
             (declare name.now (type_name (shape_in self.old.outside.types written)) (blocks_of self.old)) }
         ensures outside { (self.new.outside ≡ self.old.outside)
@@ -279,54 +269,44 @@ impl Known {
             Written::Named(number) if (*number as usize) < self.types.len() => *number,
             _ => self.add_type(written)?,
         };
-        self.declare(alloc, name, Meaning::Type(number))
+        self.declare(name, Meaning::Type(number))
     }
 
     // A type more among those of the routine's variables: its number, and a copy of it.
-    fn add_local(&mut self, alloc: Global, ty: Ty) -> Result<(u32, Ty), AllocError>
+    fn add_local(&mut self, ty: Ty) -> Result<(u32, Ty), AllocError>
         ensures number { IfOk result (λ x. x.0 ≡ length self.old.locals) }
         ensures copy { IfOk result (λ x. seen x.1 ≡ seen ty) }
         ensures ok { IfOk result (λ _. self.new ≡ record self.old { locals = self.old.locals ++ seen ty ∷ [] }) }
         ensures err { OnErr result (self.new ≡ self.old) }
     {
         let (number, ty) = beside(small(self.locals.len()), ty)?;
-        let (copy, ty) = beside(copy_ty(alloc, &ty), ty)?;
+        let (copy, ty) = beside(copy_ty(self.types.alloc(), &ty), ty)?;
         let (_, copy) = beside(self.locals.push(ty), copy)?;
         Ok((number, copy))
     }
 
     /// A variable more, which has the next number of its routine, counted from 0; or the refusal `declared twice`.
-    pub fn declare_variable(
-        &mut self,
-        alloc: Global,
-        name: &Name,
-        ty: Ty,
-    ) -> Result<u32, JudgeError>
+    pub fn declare_variable(&mut self, name: &Name, ty: Ty) -> Verdict<u32>
         ensures value { Judges (λ _. scene_of self.new) result (with_variable name.now (seen ty) (scene_of self.old)) }
         ensures number { IfOk result (λ number. number ≡ length self.old.locals) }
         ensures outside { self.new.outside ≡ self.old.outside }
         ensures err { OnErr result (self.new.innermost ≡ self.old.innermost) }
     {
-        let (number, copy) = self.add_local(alloc, ty)?;
-        self.declare(alloc, name, Meaning::Variable(number, copy))?;
+        let (number, copy) = self.add_local(ty)?;
+        self.declare(name, Meaning::Variable(number, copy))?;
         Ok(number)
     }
 
     /// A variable more that a `when` quantifies, which has the next number of all variables of its routine; or the refusal
     /// `declared twice`.
-    pub fn declare_quantified(
-        &mut self,
-        alloc: Global,
-        name: &Name,
-        ty: Ty,
-    ) -> Result<u32, JudgeError>
+    pub fn declare_quantified(&mut self, name: &Name, ty: Ty) -> Verdict<u32>
         ensures value { Judges (λ _. scene_of self.new) result (with_quantified name.now (seen ty) (scene_of self.old)) }
         ensures number { IfOk result (λ number. number ≡ length self.old.locals) }
         ensures outside { self.new.outside ≡ self.old.outside }
         ensures err { OnErr result (self.new.innermost ≡ self.old.innermost) }
     {
-        let (number, copy) = self.add_local(alloc, ty)?;
-        self.declare(alloc, name, Meaning::Quantified(number, copy))?;
+        let (number, copy) = self.add_local(ty)?;
+        self.declare(name, Meaning::Quantified(number, copy))?;
         Ok(number)
     }
 
@@ -348,7 +328,7 @@ impl Known {
     }
 
     /// The block of a function inside the innermost one, with no variables yet; and what is to be put back after the function.
-    pub fn enter_function(&mut self, alloc: Global) -> Result<Aside, AllocError>
+    pub fn enter_function(&mut self) -> Result<Aside, AllocError>
         ensures value { IfOk result (λ _. self.new ≡ in_function self.old) }
         ensures aside { IfOk result (λ aside. (aside.sight ≡ self.old.outside.sight) × (aside.locals ≡ self.old.locals)) }
         ensures kept { IfOk result (λ _. IsBySight self.old) }
@@ -356,9 +336,10 @@ impl Known {
     {
         let outside = self.scopes.depth();
         self.scopes.push()?;
+        let none = Tys::new(self.types.alloc());
         Ok(Aside {
             sight: mem::replace(&mut self.sight, Sight::Function { outside }),
-            locals: mem::replace(&mut self.locals, Tys::new(alloc)),
+            locals: mem::replace(&mut self.locals, none),
         })
     }
 
@@ -373,11 +354,9 @@ impl Known {
         mem::replace(&mut self.locals, aside.locals)
     }
 
-    /// The types of the routine's variables by number.
-    pub fn locals(&self) -> &Tys
-        ensures value { result.now ≡ self.now.locals }
-    {
-        &self.locals
+    /// Where its parts are.
+    pub fn alloc(&self) -> Global {
+        self.types.alloc()
     }
 
     /// The named types by number.

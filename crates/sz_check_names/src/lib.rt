@@ -13,7 +13,7 @@ mod types;
 mod waiting;
 mod written;
 
-pub use error::JudgeError;
+pub use error::{JudgeError, Verdict};
 pub use known::{Aside, Known};
 pub use meaning::{Meaning, Means};
 pub use number::small;

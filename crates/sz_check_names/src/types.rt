@@ -11,7 +11,7 @@ ghost use Rattle.sz_check_names.specs.Parts.{free_name, free_coding, coding_seen
 ghost use Rattle.sz_check_names.specs.Written.{shape_in, field_in};
 ghost use Rattle.sz_check_names.specs.Outcome.{Judges};
 
-use crate::error::JudgeError;
+use crate::error::{JudgeError, Verdict};
 use crate::field_names::{TakenNames, TakenNumbers};
 use crate::known::Known;
 use crate::meaning::Means;
@@ -24,18 +24,13 @@ use sz_tree::{Name, Param, ProtoField, TypeTree};
 use sz_types::{Encoding, Place, Text, Ty};
 
 // The type that a name stands for, which is one of these types.
-fn type_named(
-    alloc: Global,
-    types: &NamedTypes,
-    name: &Name,
-    means: Means<'_>,
-) -> Result<Written, JudgeError>
+fn type_named(types: &NamedTypes, name: &Name, means: Means<'_>) -> Verdict<Written>
     requires types { IsOfTypes types.now means }
     ensures value { Judges (shape_in types.now) result (type_named name.now (means_of means.entry)) }
 {
     match means {
         Means::Type(ty) => Ok(Written::Named(ty.number)),
-        _ => Err(JudgeError::of(alloc, Cause::WrongKind, name)),
+        _ => Err(JudgeError::of(types.alloc(), Cause::WrongKind, name)),
     }
 }
 
@@ -96,7 +91,7 @@ fn coding_of(
 }
 
 // A name of a part or a field, which must be free, and is taken now.
-fn take_name(alloc: Global, name: &Name, taken: &mut TakenNames) -> Result<Text, JudgeError>
+fn take_name(alloc: Global, name: &Name, taken: &mut TakenNames) -> Verdict<Text>
     ensures value { Judges (λ text. text) result (free_name name.now taken.old) }
     ensures taken { OnOk result (taken.new ≡ name.now.text ∷ taken.old) }
 {
@@ -109,12 +104,11 @@ fn take_name(alloc: Global, name: &Name, taken: &mut TakenNames) -> Result<Text,
 
 // The number and the encoding of a field, which it must have.
 fn judge_coding(
-    alloc: Global,
     types: &NamedTypes,
     tree: &ProtoField,
     ty: &Written,
     used: &TakenNumbers,
-) -> Result<(u32, Encoding), JudgeError>
+) -> Verdict<(u32, Encoding)>
     ensures value { Judges coding_seen result
         (free_coding tree.now.name (coding_of used.now (shape_in types.now ty.now) (field_number tree.now.number)
         (encoding_of tree.now.label))) }
@@ -122,66 +116,61 @@ fn judge_coding(
     let number = field_number(tree.number);
     match coding_of(used, types, ty, number, encoding_of(&tree.label)) {
         Some(coding) => Ok(coding),
-        None => Err(JudgeError::of(alloc, Cause::BadProto, &tree.name)),
+        None => Err(JudgeError::of(types.alloc(), Cause::BadProto, &tree.name)),
     }
 }
 
 /// The type of a tree, as it is written, or its first refusal, at a name, a field or a part.
 #[cycle(types)]
 #[tactic(auto, unfolding(sz_check_rules::specs::JudgingTypes::judge_type))]
-pub fn judge_written(alloc: Global, known: &Known, tree: &TypeTree) -> Result<Written, JudgeError>
+pub fn judge_written(known: &Known, tree: &TypeTree) -> Verdict<Written>
     ensures value { Judges (shape_in known.now.outside.types) result (judge_type (blocks_of known.now) (type_of tree.now)) }
 {
     match tree {
         TypeTree::Basic(_, basic) => Ok(Written::Basic(*basic)),
         TypeTree::Named(name) => {
-            let means = known.look_up(alloc, Site::Statement, name)?;
-            type_named(alloc, known.types(), name, means)
+            let means = known.look_up(Site::Statement, name)?;
+            type_named(known.types(), name, means)
         }
-        TypeTree::Array(_, element) => Ok(Written::Array(judge_boxed(alloc, known, element)?)),
+        TypeTree::Array(_, element) => Ok(Written::Array(judge_boxed(known, element)?)),
         TypeTree::Map(_, _, key, value) => {
-            let key = judge_boxed(alloc, known, key)?;
-            let value = judge_boxed(alloc, known, value)?;
+            let key = judge_boxed(known, key)?;
+            let value = judge_boxed(known, value)?;
             Ok(Written::Map(key, value))
         }
-        TypeTree::Tuple(place, parts) => judge_tuple(alloc, known, *place, parts.as_slice()),
-        TypeTree::Proto(place, fields) => judge_proto(alloc, known, *place, fields.as_slice()),
+        TypeTree::Tuple(place, parts) => judge_tuple(known, *place, parts.as_slice()),
+        TypeTree::Proto(place, fields) => judge_proto(known, *place, fields.as_slice()),
     }
 }
 
 /// The type of a tree, with all names written out, or its first refusal, at a name, a field or a part.
-pub fn judge_type(alloc: Global, known: &Known, tree: &TypeTree) -> Result<Ty, JudgeError>
+pub fn judge_type(known: &Known, tree: &TypeTree) -> Verdict<Ty>
     ensures value { Judges seen result (judge_type (blocks_of known.now) (type_of tree.now)) }
 {
-    let written = judge_written(alloc, known, tree)?;
-    let ty = known.types().write_out(alloc, &written);
+    let written = judge_written(known, tree)?;
+    let ty = known.types().write_out(&written);
     drop(written);
     Ok(ty?)
 }
 
 // The type on the heap, as a part of another.
 #[cycle(types)]
-fn judge_boxed(alloc: Global, known: &Known, tree: &TypeTree) -> Result<Box<Written>, JudgeError>
+fn judge_boxed(known: &Known, tree: &TypeTree) -> Verdict<Box<Written>>
     ensures value { Judges (λ made. shape_in known.now.outside.types made.value) result
         (judge_type (blocks_of known.now) (type_of tree.now)) }
 {
-    Ok(Box::new(alloc, judge_written(alloc, known, tree)?)?)
+    Ok(Box::new(known.alloc(), judge_written(known, tree)?)?)
 }
 
 // A tuple type.
 #[cycle(types)]
 #[tactic(auto, using(crate::proofs::WrittenLemmas::shape_in_tuple), unfolding(sz_check_rules::specs::JudgingTypes::judge_type))]
-fn judge_tuple(
-    alloc: Global,
-    known: &Known,
-    place: Place,
-    trees: &[Param],
-) -> Result<Written, JudgeError>
+fn judge_tuple(known: &Known, place: Place, trees: &[Param]) -> Verdict<Written>
     ensures value { Judges (shape_in known.now.outside.types) result
         (judge_type (blocks_of known.now) (tuple place (params_of (each param_of trees.now)))) }
 {
-    let mut taken = TakenNames::new(alloc)?;
-    let parts = judge_parts(alloc, known, trees, &mut taken);
+    let mut taken = TakenNames::new(known.alloc())?;
+    let parts = judge_parts(known, trees, &mut taken);
     drop(taken);
     Ok(Written::Tuple(parts?))
 }
@@ -189,18 +178,13 @@ fn judge_tuple(
 // A proto type.
 #[cycle(types)]
 #[tactic(auto, using(crate::proofs::WrittenLemmas::shape_in_proto), unfolding(sz_check_rules::specs::JudgingTypes::judge_type))]
-fn judge_proto(
-    alloc: Global,
-    known: &Known,
-    place: Place,
-    trees: &[ProtoField],
-) -> Result<Written, JudgeError>
+fn judge_proto(known: &Known, place: Place, trees: &[ProtoField]) -> Verdict<Written>
     ensures value { Judges (shape_in known.now.outside.types) result
         (judge_type (blocks_of known.now) (proto place (trees_of (each field_of trees.now)))) }
 {
-    let mut taken = TakenNames::new(alloc)?;
-    let mut used = TakenNumbers::new(alloc);
-    let fields = judge_fields(alloc, known, trees, &mut taken, &mut used);
+    let mut taken = TakenNames::new(known.alloc())?;
+    let mut used = TakenNumbers::new(known.alloc());
+    let fields = judge_fields(known, trees, &mut taken, &mut used);
     drop(taken);
     drop(used);
     Ok(Written::Proto(fields?))
@@ -208,18 +192,13 @@ fn judge_proto(
 
 // The next part of a tuple, whose name must be free.
 #[cycle(types)]
-fn judge_part(
-    alloc: Global,
-    known: &Known,
-    tree: &Param,
-    taken: &mut TakenNames,
-) -> Result<WrittenField, JudgeError>
+fn judge_part(known: &Known, tree: &Param, taken: &mut TakenNames) -> Verdict<WrittenField>
     ensures value { Judges (field_in known.now.outside.types) result
         (judge_part (blocks_of known.now) taken.old tree.now.name (type_of tree.now.of)) }
     ensures taken { IfOk result (λ made. taken.new ≡ made.name ∷ taken.old) }
 {
-    let ty = judge_written(alloc, known, &tree.of)?;
-    let (name, ty) = beside(take_name(alloc, &tree.name, taken), ty)?;
+    let ty = judge_written(known, &tree.of)?;
+    let (name, ty) = beside(take_name(known.alloc(), &tree.name, taken), ty)?;
     Ok(WrittenField {
         name,
         ty,
@@ -230,18 +209,13 @@ fn judge_part(
 
 // The parts of a tuple: each is judged whole before the next.
 #[cycle(types)]
-fn judge_parts(
-    alloc: Global,
-    known: &Known,
-    trees: &[Param],
-    taken: &mut TakenNames,
-) -> Result<Vec<WrittenField>, JudgeError>
+fn judge_parts(known: &Known, trees: &[Param], taken: &mut TakenNames) -> Verdict<Vec<WrittenField>>
     ensures value { Judges (λ made. fields_of (each (field_in known.now.outside.types) made.items)) result
         (judge_parts (blocks_of known.now) taken.old (params_of (each param_of trees.now))) }
 {
-    let mut parts = Vec::new(alloc);
+    let mut parts = Vec::new(known.alloc());
     for tree in trees {
-        parts.push(judge_part(alloc, known, tree, taken)?)?;
+        parts.push(judge_part(known, tree, taken)?)?;
     }
     Ok(parts)
 }
@@ -249,21 +223,20 @@ fn judge_parts(
 // The next field of a message, whose name and number must be free.
 #[cycle(types)]
 fn judge_field(
-    alloc: Global,
     known: &Known,
     tree: &ProtoField,
     taken: &mut TakenNames,
     used: &mut TakenNumbers,
-) -> Result<WrittenField, JudgeError>
+) -> Verdict<WrittenField>
     ensures value { Judges (field_in known.now.outside.types) result
         (judge_field (blocks_of known.now) taken.old used.old (field_of tree.now)) }
     ensures taken { IfOk result (λ made. taken.new ≡ made.name ∷ taken.old) }
     ensures used { IfOk result (λ made. used.new ≡ made.number ∷ used.old) }
 {
-    let ty = judge_written(alloc, known, &tree.of)?;
-    let coding = judge_coding(alloc, known.types(), tree, &ty, used);
+    let ty = judge_written(known, &tree.of)?;
+    let coding = judge_coding(known.types(), tree, &ty, used);
     let ((number, code), ty) = beside(coding, ty)?;
-    let (name, ty) = beside(take_name(alloc, &tree.name, taken), ty)?;
+    let (name, ty) = beside(take_name(known.alloc(), &tree.name, taken), ty)?;
     let (_, (name, ty)) = beside(used.add(number), (name, ty))?;
     Ok(WrittenField {
         name,
@@ -276,18 +249,17 @@ fn judge_field(
 // The fields of a message.
 #[cycle(types)]
 fn judge_fields(
-    alloc: Global,
     known: &Known,
     trees: &[ProtoField],
     taken: &mut TakenNames,
     used: &mut TakenNumbers,
-) -> Result<Vec<WrittenField>, JudgeError>
+) -> Verdict<Vec<WrittenField>>
     ensures value { Judges (λ made. fields_of (each (field_in known.now.outside.types) made.items)) result
         (judge_fields (blocks_of known.now) taken.old used.old (trees_of (each field_of trees.now))) }
 {
-    let mut fields = Vec::new(alloc);
+    let mut fields = Vec::new(known.alloc());
     for tree in trees {
-        fields.push(judge_field(alloc, known, tree, taken, used)?)?;
+        fields.push(judge_field(known, tree, taken, used)?)?;
     }
     Ok(fields)
 }

@@ -120,6 +120,11 @@ impl NamedTypes {
         }
     }
 
+    /// Where its parts are.
+    pub fn alloc(&self) -> Global {
+        *self.stored.allocator()
+    }
+
     /// The number of types.
     pub fn len(&self) -> usize
         ensures value { result ≡ length self.now }
@@ -134,7 +139,7 @@ impl NamedTypes {
         ensures err { OnErr result (self.new ≡ self.old) }
     {
         let (number, written) = beside(small(self.stored.len()), written)?;
-        let kept = as_kept(*self.stored.allocator(), written, self.stored.as_slice())?;
+        let kept = as_kept(self.alloc(), written, self.stored.as_slice())?;
         self.stored.push(kept)?;
         Ok(number)
     }
@@ -147,19 +152,19 @@ impl NamedTypes {
     }
 
     /// The type, with all names written out. A name of a type that is kept whole takes one copy of it.
-    pub fn write_out(&self, alloc: Global, written: &Written) -> Result<Ty, AllocError>
+    pub fn write_out(&self, written: &Written) -> Result<Ty, AllocError>
         ensures value { IfOk result (λ ty. seen ty ≡ shape_in self.now written.now) }
     {
-        write_out(alloc, written, self.stored.as_slice())
+        write_out(self.alloc(), written, self.stored.as_slice())
     }
 }
 
 impl NamedType<'_> {
     /// The type, with all names written out.
-    pub fn write_out(self, alloc: Global) -> Result<Ty, AllocError>
+    pub fn write_out(self) -> Result<Ty, AllocError>
         ensures value { IfOk result (λ ty. seen ty ≡ type_at self.entry.types.now self.entry.number) }
     {
-        self.types.write_out(alloc, &Written::Named(self.number))
+        self.types.write_out(&Written::Named(self.number))
     }
 }
 

@@ -10,6 +10,6 @@ returns-clause-value c =
     let k = c.self.inside in
     (λ i. knowledge_of (blocks_by k.types k.meanings.items (c.in_ok-push.ensures.ok i))
     ((c.replace.ensures.after ∙ ap (λ n. Function n) c.depth-outside.ensures.value) i)
-    k.types ((c.replace-2.ensures.after ∙ c.new.ensures.value) i))
+    k.types ((c.replace-2.ensures.after ∙ c.new-none.ensures.value) i))
     ∙ function_known k.types k.meanings.items k.scopes k.sight k.locals c.self.invariant
     ∙ ap in_function c.self.view_is
