@@ -10,7 +10,7 @@ use Rattle.sz_disk.specs.declared.reading.AtGate.TheVariants.{Entry, Ending, Cut
 use Rattle.sz_disk.proofs.GateForCallers.{same_opened, opened_long}
 use Rattle.sz_journal.specs.Jobs.{job_bytes, IsJob}
 use Rattle.sz_journal.specs.declared.job.JobBytes.{JobBytes}
-use Rattle.sz_journal.specs.Journals.{entries_of, BeginsWith, IsOfOtherJob, Stands, OtherJob, DamagedAt}
+use Rattle.sz_journal.specs.Journals.{entries_of, BeginsWith, IsOfOtherJob, Stands, DamagedAt}
 use Rattle.sz_journal.specs.declared.error.OpenError.{OpenError}
 use Rattle.sz_journal.specs.declared.error.OpenError.TheVariants as errors
 use Rattle.sz_journal.specs.Opening.{FitsError}

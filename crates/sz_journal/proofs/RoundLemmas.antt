@@ -1,5 +1,5 @@
 -- What a journal is for a job, by what stands behind its rounds.
-use Rattle.std.proofs.Common.{◌≡◌, inr, ℕ, ◌+◌, ◌<◌, ◌^◌, List, [], ◌∷◌, ◌++◌, drop, refl, sym, ◌∙◌, ap, subst, append_assoc}
+use Rattle.std.proofs.Common.{◌≡◌, inr, ℕ, ◌<◌, ◌^◌, List, [], ◌∷◌, ◌++◌, drop, refl, sym, ◌∙◌, ap, subst, append_assoc}
 use Rattle.std.specs.List.{AllByRecursion}
 use Rattle.sz_types.specs.Tables.{Declaration}
 use Rattle.sz_disk.specs.Entries.{with_length, opened, all_opened, end_of, IsCounted}

@@ -1,5 +1,5 @@
 -- Saved states of rounds, joined one after the other.
-use Rattle.std.proofs.Common.{◌≡◌, ◌≢◌, ◌∙◌, ℕ, ◌+◌, ◌^◌, ◌≤◌, List, [], ◌∷◌, ◌++◌, map, refl, sym, ap, subst, arith, zero-add}
+use Rattle.std.proofs.Common.{◌≡◌, ◌≢◌, ◌∙◌, ◌+◌, ◌^◌, ◌≤◌, List, [], ◌∷◌, ◌++◌, map, refl, sym, ap, subst, arith, zero-add}
 use Rattle.std.proofs.lemmas.List.{map-append}
 use Rattle.std.proofs.lemmas.List.Sorted.{IsPermutation-refl}
 use Rattle.std.proofs.lemmas.List.Sums.{sum_by-cons}
@@ -33,9 +33,9 @@ can_begin decls groups none is are =
     record { before = []; are = are; can = record { same = tt; low = omega (arith, empty) } }
 
 -- the tables of the next round can be joined to those of the rounds
-pub can_take : {groups : List SavedState} {round : RoundEntry} (job : JobBytes) (decls : List Declaration) (rounds : List RoundEntry)
+pub can_take : {groups : List SavedState} (job : JobBytes) (decls : List Declaration) (rounds : List RoundEntry) (round : RoundEntry)
     → AreOf groups (nothing decls ∷ map saved_in rounds) → AreRounds job decls (rounds ++ round ∷ []) → CanTake groups round.saved
-can_take {round = round} job decls rounds joined are =
+can_take job decls rounds round joined are =
     let saved = map-append saved_in rounds (round ∷ []) in
     let bounds : bounds_of (map saved_in rounds ++ round.saved ∷ []) ≡ all_bounds (rounds ++ round ∷ []) =
         ap bounds_of (sym saved) ∙ bounds_are (rounds ++ round ∷ []) in
@@ -50,9 +50,9 @@ can_take {round = round} job decls rounds joined are =
     }
 
 -- and then they are
-pub joins_next : {groups : List SavedState} {round : RoundEntry} (decls : List Declaration) (rounds : List RoundEntry)
+pub joins_next : {groups : List SavedState} (decls : List Declaration) (rounds : List RoundEntry) (round : RoundEntry)
     → AreOf groups ((nothing decls ∷ map saved_in rounds) ++ round.saved ∷ []) → AreOf groups (nothing decls ∷ map saved_in (rounds ++ round ∷ []))
-joins_next {groups = groups} {round = round} decls rounds are =
+joins_next {groups = groups} decls rounds round are =
     subst (λ (l : List SavedState). AreOf groups (nothing decls ∷ l)) (sym (map-append saved_in rounds (round ∷ []))) are
 
 -- there are some

@@ -1,5 +1,5 @@
 -- What a call of a job leaves of its journal, from round to round.
-use Rattle.std.proofs.Common.{◌≡◌, inl, inr, ℕ, ◌+◌, ◌<◌, true, List, [], ◌∷◌, ◌++◌, length, Option, refl, sym, ap, ◌∙◌, subst, arith, append_assoc, append-nil, length-append}
+use Rattle.std.proofs.Common.{◌≡◌, inl, inr, ℕ, ◌<◌, true, List, [], ◌∷◌, ◌++◌, length, Option, refl, sym, ap, ◌∙◌, subst, arith, append_assoc, append-nil, length-append}
 use Rattle.sz_types.specs.Tables.{Declaration}
 use Rattle.sz_attempt.specs.declared.job.Job.{Job}
 use Rattle.sz_disk.specs.Crashes.{Images, are_told}

@@ -1,5 +1,5 @@
 -- A job that is resumed, up to where its rounds end.
-use Rattle.std.proofs.Common.{◌≡◌, inl, inr, ℕ, ◌+◌, ◌≤◌, Bool, true, List, [], ◌∷◌, ◌++◌, length, drop, Option, Some, None, IfSome}
+use Rattle.std.proofs.Common.{◌≡◌, inl, inr, ℕ, ◌≤◌, Bool, true, List, [], ◌∷◌, ◌++◌, length, drop, Option, Some, None, IfSome}
 use Rattle.std.proofs.Common.{refl, sym, ap, ◌∙◌, subst, arith, length-append}
 use Rattle.std.specs.Prelude.{Result, Ok, Err}
 use Rattle.sz_mean.specs.Marked.{all_tables}
@@ -44,7 +44,7 @@ long_enough (Some s) (Some l) bytes input skips is =
     let enough = skips.enough refl in omega (arith, long, enough, length-append skips.dropped l)
 
 -- the same where the bytes of rounds were all dropped
-module _ {before after : Option (List ℕ)} {done : Done} {all : Bool} {progress : Progress} {rounds : List RoundEntry} {input : List ℕ} (skips : Skips before after done.bytes all)
+module _ {before after : Option (List ℕ)} {done : Done} {all : Bool} {progress : Progress} (rounds : List RoundEntry) {input : List ℕ} (skips : Skips before after done.bytes all)
     (test : all ≡ true) (done_is : done ≡ done_of progress) (progress_is : progress ≡ last_progress rounds) (is : before ≡ Some input) where
   place_is : done.bytes ≡ (last_progress rounds).bytes
   place_is = ap (λ (d : Done). d.bytes) done_is ∙ ap (λ (p : Progress). p.bytes) progress_is

@@ -1,5 +1,5 @@
 -- What the rounds of a journal hold together, while they come.
-use Rattle.std.specs.Prelude.{ℕ, List, [], ◌∷◌, map, Option}
+use Rattle.std.specs.Prelude.{ℕ, List, ◌∷◌, map, Option}
 use Rattle.sz_types.specs.Tables.{Declaration}
 use Rattle.sz_mean.specs.Marked.{all_tables}
 use Rattle.sz_attempt.specs.declared.job.Job.{Job}

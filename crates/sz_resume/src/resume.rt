@@ -237,12 +237,14 @@ fn run_next<R: Threads + Sync, G: Gate + Sync, K: Disk>(
 {
     let (tables, passed) = run_at_hand(rt, alloc, &run.job, run.workers, intake, gate)?;
     let round = round_entry(alloc, &run.job, intake, &tables, passed)?;
-    if let Err(error) = journal.tail.append(disk, &round) {
-        return Err(of_disk(error));
+    match journal.tail.append(disk, &round) {
+        Ok(()) => {
+            journal.joined.keep(round)?;
+            intake.move_on(passed);
+            Ok(())
+        }
+        Err(error) => Err(of_disk(error)),
     }
-    journal.joined.keep(round)?;
-    intake.move_on(passed);
-    Ok(())
 }
 
 /// The tables of rounds that were joined, where the input ends so after them.

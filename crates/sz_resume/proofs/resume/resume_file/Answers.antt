@@ -48,7 +48,7 @@ pub returns-clause-value : goal.returns-clause-value
 returns-clause-value g c input held name told read found =
     let s = c.args.run.now in
     c.run_after.ensures.value input
-    (after_dropped c.in_ok-all.ensures.value c.if-not-all.false c.done_after-done.ensures.value c.progress.ensures.value told)
+    (after_dropped (rounds_of c.args.journal.now.tail) c.in_ok-all.ensures.value c.if-not-all.false c.done_after-done.ensures.value c.progress.ensures.value told)
     (found_stands c.args.run.now.job (record { frame = s.frame; most = s.shard; bytes = input }) name held (rounds_of c.args.journal.now.tail) found)
 
 pub returns-clause-short : goal.returns-clause-short
@@ -56,16 +56,16 @@ returns-clause-short g c =
     tells_all c.args.journal.now.tail (g.F.Files.left c.args.files.now c.args.file) c.run_after.result
     (λ input told.
     tells_long c.args.journal.now.tail input c.run_after.result c.run_after.ensures.long
-    (long_input c.in_ok-all.ensures.value c.if-not-all.false c.done_after-done.ensures.value c.progress.ensures.value told))
+    (long_input (rounds_of c.args.journal.now.tail) c.in_ok-all.ensures.value c.if-not-all.false c.done_after-done.ensures.value c.progress.ensures.value told))
 
 pub returns-clause-stopped : goal.returns-clause-stopped
 returns-clause-stopped g c input held name told rests is_told j found =
     c.run_after.ensures.stopped input held name
-    (after_dropped c.in_ok-all.ensures.value c.if-not-all.false c.done_after-done.ensures.value c.progress.ensures.value told) rests is_told j
+    (after_dropped (rounds_of c.args.journal.now.tail) c.in_ok-all.ensures.value c.if-not-all.false c.done_after-done.ensures.value c.progress.ensures.value told) rests is_told j
     (found_is rests.read j found)
 
 pub returns-clause-ended : goal.returns-clause-ended
 returns-clause-ended g c input held name told rests j found =
     c.run_after.ensures.ended input held name
-    (after_dropped c.in_ok-all.ensures.value c.if-not-all.false c.done_after-done.ensures.value c.progress.ensures.value told) rests j
+    (after_dropped (rounds_of c.args.journal.now.tail) c.in_ok-all.ensures.value c.if-not-all.false c.done_after-done.ensures.value c.progress.ensures.value told) rests j
     (found_is rests.read j found)

@@ -50,7 +50,7 @@ fill_round-requires-clause-can_read g c = can_read c.loop-intake.invariant.behin
 -- what stands after the rounds
 pub ended-requires : goal.ended-requires
 ended-requires g c =
-    record { some = (all_tables c.args.run.now.job.compiled, (rounds_of c.loop-intake.journal.tail, c.loop-intake.invariant.joined)) }
+    record { some = (all_tables c.args.run.now.job.compiled, rounds_of c.loop-intake.journal.tail, c.loop-intake.invariant.joined) }
 
 
 -- the answer where no shard is left
@@ -200,6 +200,7 @@ loop-intake-preserved g c =
       stands = λ input told all.
           c.in_ok-run_next.ensures.stands (record { frame = s.frame; most = s.shard; bytes = input }) start now b
           (rest_told left input from (last_progress rounds).bytes inv.rises told) (inv.stands input told all);
+      joined = c.in_ok-run_next.ensures.joined;
       keeps = λ name held rests j. (
           let k = inv.keeps name held rests j in c.in_ok-run_next.ensures.keeps name k.held k.rests.read (inv.journal_is name j));
       entries = λ name held rests is_told j. (

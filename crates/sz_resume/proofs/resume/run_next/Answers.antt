@@ -1,10 +1,11 @@
 use Rattle.std.proofs.Common.{[], ◌∷◌, refl, sym, subst}
 use Rattle.std.proofs.lemmas.Result.{err_from_is_err_and}
 use Rattle.sz_journal.specs.Journal.{rounds_of}
+use Rattle.sz_resume.specs.Joining.{HaveJoined}
 use Rattle.sz_resume.specs.Turns.{AllStand, AddsRound}
 use Rattle.sz_resume.proofs.LeaveLemmas.{leaves_nothing, entries_none}
 use Rattle.sz_resume.proofs.WayLemmas.{spelled_at}
-use Rattle.sz_resume.proofs.AppendLemmas.{is_round, closed_within, few_left, few_numbers, adds_round, all_stand, can_append, journal_is, keeps_then, leaves_round, entries_round}
+use Rattle.sz_resume.proofs.AppendLemmas.{is_round, closed_within, few_left, few_numbers, adds_round, all_stand, can_append, can_join, journal_is, keeps_then, leaves_round, entries_round}
 use Rattle.sz_resume.proofs.resume.run_next.Goals as goal
 
 -- the shards at hand are a round
@@ -43,6 +44,15 @@ append-requires g c =
     record {
       can = can_append c.requires.next v.1 (c.in_ok-round.ensures.value v.0 v.1) c.args.journal.now.tail refl c.requires.journal.name (g.K.Disk.bytes c.args.disk.now)
           c.requires.journal.is c.requires.can_resume.is_job;
+    }
+
+-- its tables can be joined to those of the rounds
+pub keep-requires : goal.keep-requires
+keep-requires g c =
+    let v = c.in_ok-tables.ensures.value in
+    record {
+      next = can_join c.requires.next v.1 (c.in_ok-round.ensures.value v.0 v.1) c.args.journal.now.tail refl HaveJoined c.requires.journal.name
+          (g.K.Disk.bytes c.args.disk.now) c.requires.journal.is c.requires.can_resume.is_job c.requires.journal.joined;
     }
 
 -- it has a place after it
@@ -93,6 +103,21 @@ pub returns-in-Ok-clause-entries : goal.returns-in-Ok-clause-entries
 returns-in-Ok-clause-entries g c =
     let v = c.in_ok-tables.ensures.value in
     entries_round c.requires.next v.1 (c.in_ok-round.ensures.value v.0 v.1) c.args.journal.now.tail refl c.requires.can_resume.is_job c.append.ensures.leaves
+
+-- there was no memory for what the rounds hold together
+pub returns-in_err-keep-in-Ok-clause-entries : goal.returns-in_err-keep-in-Ok-clause-entries
+returns-in_err-keep-in-Ok-clause-entries g c =
+    let v = c.in_ok-tables.ensures.value in
+    entries_round c.requires.next v.1 (c.in_ok-round.ensures.value v.0 v.1) c.args.journal.now.tail refl c.requires.can_resume.is_job c.append.ensures.leaves
+
+pub returns-in_err-keep-in-Ok-clause-stopped : goal.returns-in_err-keep-in-Ok-clause-stopped
+returns-in_err-keep-in-Ok-clause-stopped g c name source held start left b told stands rests is_told j =
+    let v = c.in_ok-tables.ensures.value in
+    let p = err_from_is_err_and c.from_residual-in_err-keep-in-Ok.result c.from_residual-in_err-keep-in-Ok.ensures.1 in (
+      c.in_ok-round.round ∷ [],
+      leaves_round c.requires.next v.1 (c.in_ok-round.ensures.value v.0 v.1) c.args.journal.now.tail refl c.requires.can_resume.is_job c.append.ensures.leaves b told stands rests is_told j,
+      rw p.1 tt,
+    )
 
 -- it may have been
 pub returns-clause-entries : goal.returns-clause-entries

@@ -1,5 +1,5 @@
 -- The tail gains the round, and so do the rounds that are kept.
-use Rattle.std.proofs.Common.{◌≡◌, ◌∙◌, ◌∷◌, ◌++◌, [], slice_get, sym}
+use Rattle.std.proofs.Common.{◌≡◌, ◌∙◌, slice_get, sym}
 use Rattle.sz_journal.proofs.FollowLemmas.{at_end}
 use Rattle.sz_journal.proofs.journal.Journal.append.Goals as goal
 

@@ -1,10 +1,9 @@
 -- The entry that is appended is that of the round.
-use Rattle.std.proofs.Common.{◌≡◌, ◌∙◌, inl}
+use Rattle.std.proofs.Common.{◌≡◌, ◌∙◌}
 use Rattle.sz_journal.specs.Rounds.{round_bytes}
 use Rattle.sz_journal.specs.Journals.{entries_of}
 use Rattle.sz_journal.specs.Journal.{rounds_of}
 use Rattle.sz_journal.proofs.SpellLemmas.{keeps_more, leaves_one}
-use Rattle.sz_journal.proofs.LeftLemmas.{leaves_still}
 use Rattle.sz_journal.proofs.tail.Tail.append.Goals as goal
 
 pub returns-in_err-next-clause-leaves : goal.returns-in_err-next-clause-leaves

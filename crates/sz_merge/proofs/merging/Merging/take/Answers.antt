@@ -1,5 +1,5 @@
 -- A state is added as a group of its own.
-use Rattle.std.proofs.Common.{◌∙◌, ◌+◌, ◌^◌, ◌≤◌, rules, sym, ap, subst, arith}
+use Rattle.std.proofs.Common.{◌+◌, ◌^◌, ◌≤◌, rules, sym, ap, subst, arith}
 use Rattle.sz_merge.specs.Together.{HasSameTables, bounds_of}
 use Rattle.sz_merge.specs.Groups.{held_by, AreOf}
 use Rattle.sz_merge.proofs.TogetherLemmas.{can_more}
