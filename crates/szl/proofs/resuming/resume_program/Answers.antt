@@ -70,12 +70,12 @@ returns-in_err-joined-clause-stopped g c =
     })
 
 -- the tables of a sound program have their weights
-pub new-joined-requires : goal.new-joined-requires
-new-joined-requires g c =
+pub new-requires : goal.new-requires
+new-requires g c =
     let r = c.in_ok-run.ensures.value.can_resume in
     record {
-      weights = subst HaveTheirWeights (sym c.tables.ensures.value) (have_their_weights c.in_ok-run.run'.job.compiled r.is_job.sound);
-      spelled = subst HaveSpelling (sym c.tables.ensures.value) r.spelled;
+      weights = subst HaveTheirWeights (sym c.tables-decls.ensures.value) (have_their_weights c.in_ok-run.run'.job.compiled r.is_job.sound);
+      spelled = subst HaveSpelling (sym c.tables-decls.ensures.value) r.spelled;
     }
 
 -- the journal isn't opened
@@ -85,7 +85,7 @@ returns-in_err-tail-clause-value g c =
     let s = c.args.settings.now in
     let program = marked c.args.program s.ignore_undefs in
     let made = c.in_ok-run.ensures.value.is_for in
-    let decls = c.tables.ensures.value ∙ ap (λ (j : Job). all_tables j.compiled) made.is_job_of.same in
+    let decls = c.tables-decls.ensures.value ∙ ap (λ (j : Job). all_tables j.compiled) made.is_job_of.same in
     let e = c.in_err-tail.field-0.0 in
     rw (p.1, p.2) (no_journal g.F.Files s program c.args.bytes.now c.args.files.now (g.K.Disk.bytes c.args.disk.now) made.slots made.means e
     (λ held told. subst (λ ds. FitsError c.args.bytes.now ds held e) decls (c.in_err-tail.ensures.causes held told)))
@@ -96,13 +96,13 @@ returns-in_err-tail-clause-stopped g c =
     let s = c.args.settings.now in
     let program = marked c.args.program s.ignore_undefs in
     let made = c.in_ok-run.ensures.value.is_for in
-    let decls = c.tables.ensures.value ∙ ap (λ (j : Job). all_tables j.compiled) made.is_job_of.same in
+    let decls = c.tables-decls.ensures.value ∙ ap (λ (j : Job). all_tables j.compiled) made.is_job_of.same in
     let f = failure_of_journal c.in_err-tail.field-0.0 in
     let disk = c.args.disk.now in
     let mid = c.open_rounds.new.disk in
     rw (p.1, p.2) (record {
       untouched = λ none. absurd (none made.slots made.means);
-      entries = entries_opened g.K.Disk c.args.bytes.now c.tables.result.now disk mid c.open_rounds.ensures.leaves;
+      entries = entries_opened g.K.Disk c.args.bytes.now c.tables-decls.result.now disk mid c.open_rounds.ensures.leaves;
       found = λ input held told read slots begun before found.
           keeps_unopened c.one_standing.ensures.law s c.requires.bounds.shard program slots c.args.bytes.now c.requires.low g.K.Disk input held before
           (status_of f) (not_done f) disk mid found
@@ -129,10 +129,10 @@ text_after-requires-clause-journal g c κs within =
       is = is_journal name job journal (g.K.Disk.bytes c.args.disk.now) (g.K.Disk.bytes mid) (g.K.Disk.may_leave mid) c.in_ok-tail.ensures.is_of
           (c.requires.budget ∙ sym (ap (λ (j : Job). j.budget) same)) (c.requires.skip ∙ sym (ap (λ (j : Job). j.skip) same))
           c.open_rounds.ensures.untold
-          (λ held told. subst (λ ds. KeepsRounds (g.K.Disk.bytes mid) (g.K.Disk.may_leave mid) name ds (rounds_of journal)) c.tables.ensures.value
+          (λ held told. subst (λ ds. KeepsRounds (g.K.Disk.bytes mid) (g.K.Disk.may_leave mid) name ds (rounds_of journal)) c.tables-decls.ensures.value
           (c.in_ok-tail.ensures.ok held told))
-          (subst (λ ds. AreRounds name ds (rounds_of journal)) c.tables.ensures.value c.in_ok-tail.ensures.are);
-      joined = subst (λ ds. HaveJoined c.open_rounds.new.keeper ds (rounds_of journal)) c.tables.ensures.value c.in_ok-tail.ensures.keeper;
+          (subst (λ ds. AreRounds name ds (rounds_of journal)) c.tables-decls.ensures.value c.in_ok-tail.ensures.are);
+      joined = subst (λ ds. HaveJoined c.open_rounds.new.keeper ds (rounds_of journal)) c.tables-decls.ensures.value c.in_ok-tail.ensures.keeper;
     }
 
 -- the job goes on after its journal
@@ -149,7 +149,7 @@ returns-clause-value g c =
     let mid = g.K.Disk.bytes c.open_rounds.new.disk in
     let may = g.K.Disk.may_leave c.open_rounds.new.disk in
     let answer = vec_items_of c.text_after.result in
-    let decls = c.tables.ensures.value ∙ ap (λ (j : Job). all_tables j.compiled) made.is_job_of.same in
+    let decls = c.tables-decls.ensures.value ∙ ap (λ (j : Job). all_tables j.compiled) made.is_job_of.same in
     after_journal c.one_standing.ensures.law s c.requires.bounds.shard c.requires.no_save program made.slots made.means name c.requires.low job.twice journal
     g.F.Files old new (g.K.Disk.bytes c.args.disk.now) mid may answer
     (λ held told. subst (λ ds. FitsAnswer name ds held (Ok journal)) decls (c.in_ok-tail.ensures.causes held told))
@@ -170,20 +170,20 @@ returns-clause-stopped g c =
     let mid = c.open_rounds.new.disk in
     let new = c.text_after.new.disk in
     let st = status_of_answer (vec_items_of c.text_after.result) in
-    let decls = c.tables.ensures.value ∙ ap (λ (j : Job). all_tables j.compiled) same in
+    let decls = c.tables-decls.ensures.value ∙ ap (λ (j : Job). all_tables j.compiled) same in
     let here : (bytes : List ℕ) → g.K.Disk.bytes disk ≡ Some bytes
     → KeepsRounds (g.K.Disk.bytes mid) (g.K.Disk.may_leave mid) name (all_tables job.compiled) (rounds_of journal)
-    = λ bytes there. subst (λ ds. KeepsRounds (g.K.Disk.bytes mid) (g.K.Disk.may_leave mid) name ds (rounds_of journal)) c.tables.ensures.value
+    = λ bytes there. subst (λ ds. KeepsRounds (g.K.Disk.bytes mid) (g.K.Disk.may_leave mid) name ds (rounds_of journal)) c.tables-decls.ensures.value
     (c.in_ok-tail.ensures.ok bytes there) in
     let is = is_journal name job journal (g.K.Disk.bytes disk) (g.K.Disk.bytes mid) (g.K.Disk.may_leave mid) c.in_ok-tail.ensures.is_of
     (c.requires.budget ∙ sym (ap (λ (j : Job). j.budget) same)) (c.requires.skip ∙ sym (ap (λ (j : Job). j.skip) same)) c.open_rounds.ensures.untold here
-    (subst (λ ds. AreRounds name ds (rounds_of journal)) c.tables.ensures.value c.in_ok-tail.ensures.are) in
+    (subst (λ ds. AreRounds name ds (rounds_of journal)) c.tables-decls.ensures.value c.in_ok-tail.ensures.are) in
     record {
       untouched = λ none. absurd (none made.slots made.means);
       entries = entries_after g.K.Disk name (all_tables job.compiled) disk mid
           (λ held read at. subst (λ ds. LeavesOnly g.K.Disk.time g.K.Disk.left_since disk mid (IsKept name ds (g.K.Disk.may_leave disk) held))
-          c.tables.ensures.value (c.open_rounds.ensures.leaves held read at))
-          journal new (λ held told. subst (λ ds. FitsAnswer name ds held (Ok journal)) c.tables.ensures.value (c.in_ok-tail.ensures.causes held told)) here
+          c.tables-decls.ensures.value (c.open_rounds.ensures.leaves held read at))
+          journal new (λ held told. subst (λ ds. FitsAnswer name ds held (Ok journal)) c.tables-decls.ensures.value (c.in_ok-tail.ensures.causes held told)) here
           c.open_rounds.ensures.told (λ held rests at. c.text_after.ensures.entries name held rests at is);
       found = λ input held told read slots begun before found. (
           let keeps = subst (λ ds. KeepsRounds (g.K.Disk.bytes mid) (g.K.Disk.may_leave mid) name ds (rounds_of journal)) decls
