@@ -10,7 +10,7 @@ ghost use Rattle.sz_check_names.specs.Outcome.{Judges};
 use crate::simple::test_if_some;
 use std::alloc::{AllocError, Global};
 use sz_check_expr::test;
-use sz_check_names::JudgeError;
+use sz_check_names::Verdict;
 use sz_core::{CoreExpr, CoreStmt};
 use sz_tree::Expr;
 use sz_types::Place;
@@ -47,7 +47,7 @@ pub fn branch(
     node: CoreExpr,
     taken: Box<CoreStmt>,
     other: Box<CoreStmt>,
-) -> Result<CoreStmt, JudgeError>
+) -> Verdict<CoreStmt>
     ensures value { Judges stm_of result (branch_of place (tree_of condition.now) (node_of node) (stm_of taken.value) (stm_of other.value)) }
 {
     test(condition, &node)?;
@@ -60,7 +60,7 @@ pub fn while_loop(
     condition: &Expr,
     node: CoreExpr,
     body: Box<CoreStmt>,
-) -> Result<CoreStmt, JudgeError>
+) -> Verdict<CoreStmt>
     ensures value { Judges stm_of result (while_of place (tree_of condition.now) (node_of node) (stm_of body.value)) }
 {
     test(condition, &node)?;
@@ -73,7 +73,7 @@ pub fn do_while_loop(
     condition: &Expr,
     body: Box<CoreStmt>,
     node: CoreExpr,
-) -> Result<CoreStmt, JudgeError>
+) -> Verdict<CoreStmt>
     ensures value { Judges stm_of result (do_while_of place (tree_of condition.now) (stm_of body.value) (node_of node)) }
 {
     test(condition, &node)?;
@@ -87,7 +87,7 @@ pub fn for_loop(
     node: Option<CoreExpr>,
     step: Box<CoreStmt>,
     body: Box<CoreStmt>,
-) -> Result<CoreStmt, JudgeError>
+) -> Verdict<CoreStmt>
     ensures value { Judges stm_of result
         (for_of place (option_map tree_of condition.now) (option_map node_of node) (stm_of step.value) (stm_of body.value)) }
 {

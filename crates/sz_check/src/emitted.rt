@@ -14,7 +14,7 @@ ghost use Rattle.sz_check_names.specs.Outcome.{Judges};
 
 use std::alloc::Global;
 use sz_check_expr::{Asks, agree, agrees, counted, judge_exp, judge_exps};
-use sz_check_names::{Cause, JudgeError, Known, Means, Site};
+use sz_check_names::{Cause, JudgeError, Known, Means, Site, Verdict};
 use sz_core::{CoreExpr, CoreStmt};
 use sz_tree::{Expr, Name};
 use sz_types::{Place, TableDecl, Ty};
@@ -28,11 +28,7 @@ pub struct Parts {
 }
 
 // The table that a name stands for.
-fn table_named<'k>(
-    alloc: Global,
-    name: &Name,
-    means: Means<'k>,
-) -> Result<(u32, &'k TableDecl), JudgeError>
+fn table_named<'k>(alloc: Global, name: &Name, means: Means<'k>) -> Verdict<(u32, &'k TableDecl)>
     ensures value { Judges numbered_of result (table_named name.now (means_of means.entry)) }
 {
     match means {
@@ -42,27 +38,18 @@ fn table_named<'k>(
 }
 
 // A weight, where there is one.
-fn judge_weight(
-    alloc: Global,
-    known: &Known,
-    asked: &Option<Ty>,
-    tree: &Option<Expr>,
-) -> Result<Option<CoreExpr>, JudgeError>
+fn judge_weight(known: &Known, asked: &Option<Ty>, tree: &Option<Expr>) -> Verdict<Option<CoreExpr>>
     ensures value { Judges (option_map node_of) result
         (judge_if_some (scene_of known.now) (option_map seen asked.now) (option_map tree_of tree.now)) }
 {
     match tree {
-        Some(tree) => Ok(Some(judge_exp(alloc, known, Site::Statement, asked.as_ref(), tree)?)),
+        Some(tree) => Ok(Some(judge_exp(known, Site::Statement, asked.as_ref(), tree)?)),
         None => Ok(None),
     }
 }
 
 // The weight of an emit has the type that the table's weights have, if both are there.
-fn weight_agrees(
-    asked: &Option<Ty>,
-    tree: &Option<Expr>,
-    node: &Option<CoreExpr>,
-) -> Result<(), JudgeError>
+fn weight_agrees(asked: &Option<Ty>, tree: &Option<Expr>, node: &Option<CoreExpr>) -> Verdict<()>
     ensures value { Judges (λ x. x) result
         (weight_agrees (option_map seen asked.now) (option_map tree_of tree.now) (option_map node_of node.now)) }
 {
@@ -74,21 +61,20 @@ fn weight_agrees(
 
 // The parts of an emit into a table.
 fn judge_parts(
-    alloc: Global,
     known: &Known,
     table: &TableDecl,
     indexes: &[Expr],
     value: &Expr,
     weight: &Option<Expr>,
-) -> Result<Parts, JudgeError>
+) -> Verdict<Parts>
     ensures value { Judges emitted_of result
         (judge_emitted (scene_of known.now) (seen_table table.now) (exps_of (each tree_of indexes.now)) (tree_of value.now)
         (option_map tree_of weight.now)) }
 {
     let asks = Asks::Types(table.indexes.as_slice());
-    let indexes = judge_exps(alloc, known, Site::Statement, asks, indexes)?;
-    let value = judge_exp(alloc, known, Site::Statement, Some(&table.element), value)?;
-    let weight = judge_weight(alloc, known, &table.weight, weight)?;
+    let indexes = judge_exps(known, Site::Statement, asks, indexes)?;
+    let value = judge_exp(known, Site::Statement, Some(&table.element), value)?;
+    let weight = judge_weight(known, &table.weight, weight)?;
     Ok(Parts {
         indexes,
         value,
@@ -105,7 +91,7 @@ fn parts_fit(
     value: &Expr,
     weight: &Option<Expr>,
     parts: &Parts,
-) -> Result<(), JudgeError>
+) -> Verdict<()>
     ensures value { Judges (λ x. x) result
         (emitted_fits (seen_table table.now) place name_place (exps_of (each tree_of indexes.now)) (tree_of value.now)
         (option_map tree_of weight.now) (emitted_of parts.now)) }
@@ -124,20 +110,19 @@ fn parts_fit(
 
 // `emit name[e].. <- e weight e;`
 pub fn judge_emit(
-    alloc: Global,
     known: &Known,
     place: Place,
     name: &Name,
     indexes: &[Expr],
     value: &Expr,
     weight: &Option<Expr>,
-) -> Result<CoreStmt, JudgeError>
+) -> Verdict<CoreStmt>
     ensures value { Judges stm_of result
         (judge_emit (scene_of known.now) place name.now (exps_of (each tree_of indexes.now)) (tree_of value.now)
         (option_map tree_of weight.now)) }
 {
-    let (number, table) = table_named(alloc, name, known.look_up(alloc, Site::Statement, name)?)?;
-    let parts = judge_parts(alloc, known, table, indexes, value, weight)?;
+    let (number, table) = table_named(known.alloc(), name, known.look_up(Site::Statement, name)?)?;
+    let parts = judge_parts(known, table, indexes, value, weight)?;
     parts_fit(table, place, name.place(), indexes, value, weight, &parts)?;
     Ok(CoreStmt::Emit(place, number, parts.indexes, parts.value, parts.weight))
 }

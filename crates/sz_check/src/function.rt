@@ -17,7 +17,7 @@ use crate::stmt::{Around, judge_stms};
 use crate::top::Top;
 use std::alloc::{AllocError, Global};
 use sz_check_emits::body_emits;
-use sz_check_names::{JudgeError, Known, Meaning, judge_type, small};
+use sz_check_names::{Known, Meaning, Verdict, judge_type, small};
 use sz_core::{CoreStmt, Function, Item, Signature};
 use sz_tree::{Name, Param, Stmt, TypeTree};
 use sz_types::{Ty, Tys, copy_ty, copy_tys};
@@ -36,53 +36,46 @@ fn copy_signature(alloc: Global, signature: &Signature) -> Result<Signature, All
 }
 
 // The parameters of a function, each a variable of it; a parameter is declared before the next one is judged.
-fn judge_parameters(alloc: Global, known: &mut Known, trees: &[Param]) -> Result<(), JudgeError>
-    ensures value { Judges (λ _. scene_of known.new) result
-        (judge_parameters (scene_of known.old) (params_of (each param_of trees.now))) }
+fn judge_parameters(known: &mut Known, trees: &[Param]) -> Verdict<()>
+    ensures value { Judges (λ _. scene_of known.new) result (judge_parameters (scene_of known.old) (params_of (each param_of trees.now))) }
     ensures outside { IfOk result (λ _. known.new.outside ≡ known.old.outside) }
 {
     for tree in trees {
-        let ty = judge_type(alloc, known, &tree.of)?;
-        let _number = known.declare_variable(alloc, &tree.name, ty)?;
+        let ty = judge_type(known, &tree.of)?;
+        let _number = known.declare_variable(&tree.name, ty)?;
     }
     Ok(())
 }
 
 // The same once the types of the parameters are known.
-fn declare_parameters(
-    alloc: Global,
-    known: &mut Known,
-    trees: &[Param],
-    types: &[Ty],
-) -> Result<(), JudgeError>
+fn declare_parameters(known: &mut Known, trees: &[Param], types: &[Ty]) -> Verdict<()>
     ensures value { Judges (λ _. scene_of known.new) result
         (declare_parameters (scene_of known.old) (params_of (each param_of trees.now)) (each seen types.now)) }
     ensures outside { IfOk result (λ _. known.new.outside ≡ known.old.outside) }
 {
     for i in 0..trees.len().min(types.len()) {
-        let ty = copy_ty(alloc, &types[i])?;
-        let _number = known.declare_variable(alloc, &trees[i].name, ty)?;
+        let ty = copy_ty(known.alloc(), &types[i])?;
+        let _number = known.declare_variable(&trees[i].name, ty)?;
     }
     Ok(())
 }
 
 // The parameters of a function and the type of its result, and whether it emits by its text.
 fn judge_header(
-    alloc: Global,
     known: &mut Known,
     name: &Name,
     params: &[Param],
     of: &TypeTree,
     trees: &[Stmt],
-) -> Result<Signature, JudgeError>
+) -> Verdict<Signature>
     ensures value { Judges signature_of result
         (judge_header (blocks_of known.old) name.now (params_of (each param_of params.now)) (type_of of.now) (stms_of (each stm_of trees.now))) }
     ensures kept { IfOk result (λ _. known.new ≡ known.old) }
 {
-    let aside = known.enter_function(alloc)?;
-    judge_parameters(alloc, known, params)?;
-    let result = judge_type(alloc, known, of)?;
-    let emits = body_emits(alloc, known, name, trees)?;
+    let aside = known.enter_function()?;
+    judge_parameters(known, params)?;
+    let result = judge_type(known, of)?;
+    let emits = body_emits(known, name, trees)?;
     let parameters = known.leave_function(aside);
     Ok(Signature {
         parameters,
@@ -92,12 +85,7 @@ fn judge_header(
 }
 
 // The next function, under its name.
-fn declare_function(
-    alloc: Global,
-    top: &mut Top,
-    name: &Name,
-    signature: &Signature,
-) -> Result<(), JudgeError>
+fn declare_function(top: &mut Top, name: &Name, signature: &Signature) -> Verdict<()>
     ensures value { Judges (λ _. blocks_of top.new.known) result
         (declare name.now (function (length top.old.functions.items) (signature_of signature.now)) (blocks_of top.old.known)) }
     ensures outside { top.new.known.outside ≡ top.old.known.outside }
@@ -107,8 +95,8 @@ fn declare_function(
     ensures functions { top.new.functions ≡ top.old.functions }
 {
     let number = small(top.functions.len())?;
-    let meaning = Meaning::Function(number, copy_signature(alloc, signature)?);
-    top.known.declare(alloc, name, meaning)
+    let meaning = Meaning::Function(number, copy_signature(top.known.alloc(), signature)?);
+    top.known.declare(name, meaning)
 }
 
 // The statements of a function, and the types of its variables by number.
@@ -120,52 +108,43 @@ pub struct Body {
 
 // The statements of a function, whose own name is known.
 fn judge_body(
-    alloc: Global,
     known: &mut Known,
     params: &[Param],
     signature: &Signature,
     trees: &[Stmt],
-) -> Result<Body, JudgeError>
+) -> Verdict<Body>
     ensures value { Judges body_of result
         (judge_body (blocks_of known.old) (params_of (each param_of params.now)) (signature_of signature.now)
         (stms_of (each stm_of trees.now))) }
     ensures kept { IfOk result (λ _. known.new ≡ known.old) }
 {
-    let aside = known.enter_function(alloc)?;
-    declare_parameters(alloc, known, params, signature.parameters.as_slice())?;
+    let aside = known.enter_function()?;
+    declare_parameters(known, params, signature.parameters.as_slice())?;
     let around = Around {
         result: Some(&signature.result),
         in_loop: false,
     };
-    let statements = judge_stms(alloc, known, around, trees)?;
+    let statements = judge_stms(known, around, trees)?;
     let locals = known.leave_function(aside);
     Ok(Body { locals, statements })
 }
 
 // Takes over a copy of a signature.
-fn push_signature(
-    alloc: Global,
-    signatures: &mut Vec<Signature>,
-    signature: &Signature,
-) -> Result<(), AllocError>
+fn push_signature(signatures: &mut Vec<Signature>, signature: &Signature) -> Result<(), AllocError>
     ensures value { IfOk result
         (λ _. each signature_of signatures.new.items ≡ each signature_of signatures.old.items ++ signature_of signature.now ∷ []) }
 {
-    signatures.push(copy_signature(alloc, signature)?)?;
+    let copy = copy_signature(*signatures.allocator(), signature)?;
+    signatures.push(copy)?;
     Ok(())
 }
 
 // What the statements of a function make of it, whose own name is known.
-fn finished(
-    alloc: Global,
-    top: &mut Top,
-    signature: Signature,
-    body: Body,
-) -> Result<Item, AllocError>
+fn finished(top: &mut Top, signature: Signature, body: Body) -> Result<Item, AllocError>
     ensures value { IfOk result
         (λ i. found_one top.new i ≡ finished (top_of top.old) (blocks_of top.old.known) (signature_of signature) (body_of body)) }
 {
-    push_signature(alloc, &mut top.functions, &signature)?;
+    push_signature(&mut top.functions, &signature)?;
     Ok(Item::Function(Function {
         signature,
         locals: body.locals,
@@ -176,19 +155,18 @@ fn finished(
 // `name: function(parameters): type {statements}`: the parameters and the type of the result, then the function's own name, and
 // then its statements, which see it.
 pub fn judge_function(
-    alloc: Global,
     top: &mut Top,
     name: &Name,
     params: &[Param],
     of: &TypeTree,
     trees: &[Stmt],
-) -> Result<Item, JudgeError>
+) -> Verdict<Item>
     ensures value { Judges (λ i. found_one top.new i) result
         (judge_function (top_of top.old) name.now (params_of (each param_of params.now)) (type_of of.now)
         (stms_of (each stm_of trees.now))) }
 {
-    let signature = judge_header(alloc, &mut top.known, name, params, of, trees)?;
-    declare_function(alloc, top, name, &signature)?;
-    let body = judge_body(alloc, &mut top.known, params, &signature, trees)?;
-    Ok(finished(alloc, top, signature, body)?)
+    let signature = judge_header(&mut top.known, name, params, of, trees)?;
+    declare_function(top, name, &signature)?;
+    let body = judge_body(&mut top.known, params, &signature, trees)?;
+    Ok(finished(top, signature, body)?)
 }

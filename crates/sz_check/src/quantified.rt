@@ -16,7 +16,7 @@ ghost use Rattle.sz_check.specs.Quantified.{variable_of, declared_of, front_of, 
 use std::alloc::{AllocError, Global};
 use sz_check_emits::is_seen_inside;
 use sz_check_expr::{alike, judge_exp, test};
-use sz_check_names::{Cause, JudgeError, Known, Meaning, Site, judge_type};
+use sz_check_names::{Cause, JudgeError, Known, Meaning, Site, Verdict, judge_type};
 use sz_core::{CoreExpr, CoreQuantity, Quantified};
 use sz_list::Items;
 use sz_quant::{Bound, Bounds, BoundsError, Names, bounds};
@@ -41,18 +41,18 @@ pub struct Front<'t> {
 
 // Declares a variable after those that are declared by now.
 fn judge_name<'t>(
-    alloc: Global,
     known: &mut Known,
     quantity: Quantity,
     ty: &Ty,
     name: &'t Name,
     variables: &mut Vec<Variable<'t>>,
-) -> Result<(), JudgeError>
+) -> Verdict<()>
     ensures value { Judges (λ _. declared_of known.new variables.new.items) result
         (judge_names quantity (seen ty.now) (name.now ∷ []) (declared_of known.old variables.old.items)) }
     ensures outside { known.new.outside ≡ known.old.outside }
 {
-    let local = known.declare_quantified(alloc, name, copy_ty(alloc, ty)?)?;
+    let alloc = known.alloc();
+    let local = known.declare_quantified(name, copy_ty(alloc, ty)?)?;
     let ty = copy_ty(alloc, ty)?;
     variables.push(Variable {
         name,
@@ -65,70 +65,66 @@ fn judge_name<'t>(
 
 // Declares variables of one kind and type after those that are declared by now.
 fn judge_names<'t>(
-    alloc: Global,
     known: &mut Known,
     quantity: Quantity,
     ty: &Ty,
     names: &'t [Name],
     variables: &mut Vec<Variable<'t>>,
-) -> Result<(), JudgeError>
+) -> Verdict<()>
     ensures value { Judges (λ _. declared_of known.new variables.new.items) result
         (judge_names quantity (seen ty.now) names.now (declared_of known.old variables.old.items)) }
     ensures outside { IfOk result (λ _. known.new.outside ≡ known.old.outside) }
 {
     for name in names {
-        judge_name(alloc, known, quantity, ty, name, variables)?;
+        judge_name(known, quantity, ty, name, variables)?;
     }
     Ok(())
 }
 
 // Declares the variables of a quantifier after those that are declared by now.
 fn judge_quantifier<'t>(
-    alloc: Global,
     known: &mut Known,
     quantifier: &'t Quantifier,
     variables: &mut Vec<Variable<'t>>,
-) -> Result<(), JudgeError>
+) -> Verdict<()>
     ensures value { Judges (λ _. declared_of known.new variables.new.items) result
         (judge_quantifier (quantifier_of quantifier.now) (declared_of known.old variables.old.items)) }
     ensures outside { IfOk result (λ _. known.new.outside ≡ known.old.outside) }
 {
-    let ty = judge_type(alloc, known, &quantifier.of)?;
+    let ty = judge_type(known, &quantifier.of)?;
     let names = quantifier.names.as_slice();
-    judge_names(alloc, known, quantifier.quantity, &ty, names, variables)
+    judge_names(known, quantifier.quantity, &ty, names, variables)
 }
 
 // Declares the variables of all quantifiers.
 fn judge_quantifiers<'t>(
-    alloc: Global,
     known: &mut Known,
     quantifiers: &'t [Quantifier],
-) -> Result<Vec<Variable<'t>>, JudgeError>
+) -> Verdict<Vec<Variable<'t>>>
     ensures value { Judges (λ made. declared_of known.new made.items) result
         (judge_quantifiers (each quantifier_of quantifiers.now) (declared_of known.old [])) }
     ensures outside { IfOk result (λ _. known.new.outside ≡ known.old.outside) }
 {
-    let mut variables = Vec::new(alloc);
+    let mut variables = Vec::new(known.alloc());
     for quantifier in quantifiers {
-        judge_quantifier(alloc, known, quantifier, &mut variables)?;
+        judge_quantifier(known, quantifier, &mut variables)?;
     }
     Ok(variables)
 }
 
 // The variables and the condition of a `when`, in a block of their own.
 pub fn judge_front<'t>(
-    alloc: Global,
     known: &mut Known,
     quantifiers: &'t [Quantifier],
     condition: &Expr,
-) -> Result<Front<'t>, JudgeError>
+) -> Verdict<Front<'t>>
     ensures value { Judges (λ f. front_of known.new f) result
         (judge_front (scene_of known.old) (each quantifier_of quantifiers.now) (tree_of condition.now)) }
     ensures outside { IfOk result (λ _. known.new.outside ≡ known.old.outside) }
 {
     known.open()?;
-    let variables = judge_quantifiers(alloc, known, quantifiers)?;
-    let condition = judge_exp(alloc, known, Site::Condition, None, condition)?;
+    let variables = judge_quantifiers(known, quantifiers)?;
+    let condition = judge_exp(known, Site::Condition, None, condition)?;
     known.close();
     Ok(Front {
         variables,
@@ -137,59 +133,47 @@ pub fn judge_front<'t>(
 }
 
 // A variable under its name, once it has a number.
-fn bind(alloc: Global, known: &mut Known, variable: &Variable<'_>) -> Result<(), JudgeError>
+fn bind(known: &mut Known, variable: &Variable<'_>) -> Verdict<()>
     ensures value { Judges (λ _. blocks_of known.new) result (bind (variable_of variable.now) (blocks_of known.old)) }
     ensures outside { known.new.outside ≡ known.old.outside }
     ensures locals { known.new.locals ≡ known.old.locals }
 {
-    let meaning = Meaning::Quantified(variable.local, copy_ty(alloc, &variable.ty)?);
-    known.declare(alloc, variable.name, meaning)
+    let meaning = Meaning::Quantified(variable.local, copy_ty(known.alloc(), &variable.ty)?);
+    known.declare(variable.name, meaning)
 }
 
 // The variable under its name, if the statement inside sees it.
-fn bind_if_inside(
-    alloc: Global,
-    known: &mut Known,
-    variable: &Variable<'_>,
-) -> Result<(), JudgeError>
+fn bind_if_inside(known: &mut Known, variable: &Variable<'_>) -> Verdict<()>
     ensures value { Judges (λ _. blocks_of known.new) result (bind_inside (variable_of variable.now ∷ []) (blocks_of known.old)) }
     ensures outside { known.new.outside ≡ known.old.outside }
     ensures locals { known.new.locals ≡ known.old.locals }
 {
     if is_seen_inside(variable.quantity) {
-        bind(alloc, known, variable)
+        bind(known, variable)
     } else {
         Ok(())
     }
 }
 
 // The variables that the statement inside sees, under their names.
-fn bind_inside(
-    alloc: Global,
-    known: &mut Known,
-    variables: &[Variable<'_>],
-) -> Result<(), JudgeError>
+fn bind_inside(known: &mut Known, variables: &[Variable<'_>]) -> Verdict<()>
     ensures value { Judges (λ _. blocks_of known.new) result (bind_inside (each variable_of variables.now) (blocks_of known.old)) }
     ensures outside { IfOk result (λ _. known.new.outside ≡ known.old.outside) }
     ensures locals { IfOk result (λ _. known.new.locals ≡ known.old.locals) }
 {
     for variable in variables {
-        bind_if_inside(alloc, known, variable)?;
+        bind_if_inside(known, variable)?;
     }
     Ok(())
 }
 
 // A block of the variables that the statement inside sees.
-pub fn judge_bound(
-    alloc: Global,
-    known: &mut Known,
-    variables: &[Variable<'_>],
-) -> Result<(), JudgeError>
+pub fn judge_bound(known: &mut Known, variables: &[Variable<'_>]) -> Verdict<()>
     ensures value { Judges (λ _. scene_of known.new) result (judge_bound (scene_of known.old) (each variable_of variables.now)) }
     ensures outside { IfOk result (λ _. known.new.outside ≡ outside_of known.old) }
 {
     known.open()?;
-    bind_inside(alloc, known, variables)
+    bind_inside(known, variables)
 }
 
 // The names of variables.
@@ -204,11 +188,7 @@ fn names_of(alloc: Global, variables: &[Variable<'_>]) -> Result<Names, AllocErr
 }
 
 // The bounds of the variables, each of which must have one.
-fn all_bounded(
-    alloc: Global,
-    variables: &[Variable<'_>],
-    condition: &Expr,
-) -> Result<Bounds, JudgeError>
+fn all_bounded(alloc: Global, variables: &[Variable<'_>], condition: &Expr) -> Verdict<Bounds>
     ensures value { Judges (λ found. each bound_of found) result
         (all_bounded (each variable_of variables.now) (bound_forms (names_of (each variable_of variables.now)) (tree_of condition.now))) }
 {
@@ -223,7 +203,7 @@ fn all_bounded(
 }
 
 // Whether a variable speaks of all candidates, after one that does or doesn't.
-fn may_follow(variable: &Variable<'_>, after: bool) -> Result<bool, JudgeError>
+fn may_follow(variable: &Variable<'_>, after: bool) -> Verdict<bool>
     ensures value { Judges (λ x. x) result (may_follow (variable_of variable.now) after) }
 {
     if !is_seen_inside(variable.quantity) {
@@ -236,7 +216,7 @@ fn may_follow(variable: &Variable<'_>, after: bool) -> Result<bool, JudgeError>
 }
 
 // No variable of another kind stands after one that speaks of all candidates. Whether the last one does.
-fn all_last(variables: &[Variable<'_>]) -> Result<bool, JudgeError>
+fn all_last(variables: &[Variable<'_>]) -> Verdict<bool>
     ensures value { Judges (λ x. x) result (all_last (each variable_of variables.now) false) }
 {
     let mut after = false;
@@ -269,22 +249,17 @@ fn checked(quantity: Quantity) -> CoreQuantity
 }
 
 // What a variable's candidates are made of, where the variables before it are seen, and then its name.
-fn judge_base(
-    alloc: Global,
-    known: &mut Known,
-    variable: &Variable<'_>,
-    bound: &Bound,
-) -> Result<Quantified, JudgeError>
+fn judge_base(known: &mut Known, variable: &Variable<'_>, bound: &Bound) -> Verdict<Quantified>
     ensures value { Judges (λ made. based_of known.new made) result
         (judge_base (blocks_of known.old) (variable_of variable.now) (bound_of bound.now)) }
     ensures outside { known.new.outside ≡ known.old.outside }
     ensures locals { known.new.locals ≡ known.old.locals }
 {
-    let base = judge_exp(alloc, known, Site::Condition, None, &bound.base)?;
+    let base = judge_exp(known, Site::Condition, None, &bound.base)?;
     if !has_candidates(bound.slice, &base.ty, &variable.ty) {
         return Err(JudgeError::at(Cause::WrongType, variable.name.place()));
     }
-    bind(alloc, known, variable)?;
+    bind(known, variable)?;
     Ok(Quantified {
         quantity: checked(variable.quantity),
         local: variable.local,
@@ -295,57 +270,54 @@ fn judge_base(
 
 // The same of all variables, in order.
 fn judge_bases(
-    alloc: Global,
     known: &mut Known,
     variables: &[Variable<'_>],
     bounds: &[Bound],
-) -> Result<Vec<Quantified>, JudgeError>
+) -> Verdict<Vec<Quantified>>
     ensures value { Judges (λ made. each quantified_of made.items) result
         (judge_bases (blocks_of known.old) (each variable_of variables.now) (each bound_of bounds.now)) }
     ensures outside { IfOk result (λ _. known.new.outside ≡ known.old.outside) }
     ensures locals { IfOk result (λ _. known.new.locals ≡ known.old.locals) }
 {
-    let mut made = Vec::new(alloc);
+    let mut made = Vec::new(known.alloc());
     for i in 0..variables.len() {
         let Some(bound) = bounds.get(i) else {
-            return Err(JudgeError::of(alloc, Cause::Unbounded, variables[i].name));
+            return Err(JudgeError::of(known.alloc(), Cause::Unbounded, variables[i].name));
         };
-        made.push(judge_base(alloc, known, &variables[i], bound)?)?;
+        made.push(judge_base(known, &variables[i], bound)?)?;
     }
     Ok(made)
 }
 
 // The variables as they are in the checked tree, by their rules.
 fn quantify(
-    alloc: Global,
     known: &mut Known,
     variables: &[Variable<'_>],
     condition: &Expr,
-) -> Result<Vec<Quantified>, JudgeError>
+) -> Verdict<Vec<Quantified>>
     ensures value { Judges (λ made. each quantified_of made.items) result
         (quantify (scene_of known.old) (each variable_of variables.now) (tree_of condition.now)) }
     ensures kept { IfOk result (λ _. known.new ≡ known.old) }
 {
-    let found = all_bounded(alloc, variables, condition)?;
+    let found = all_bounded(known.alloc(), variables, condition)?;
     let _after = all_last(variables)?;
     known.open()?;
-    let made = judge_bases(alloc, known, variables, found.as_slice())?;
+    let made = judge_bases(known, variables, found.as_slice())?;
     known.close();
     Ok(made)
 }
 
 // The variables of a `when` by their rules, where its condition is a truth value.
 pub fn judge_quantified(
-    alloc: Global,
     known: &mut Known,
     front: &Front<'_>,
     condition: &Expr,
-) -> Result<Vec<Quantified>, JudgeError>
+) -> Verdict<Vec<Quantified>>
     ensures value { Judges (λ made. each quantified_of made.items) result
         (judge_quantified (scene_of known.old) (each variable_of front.now.variables.items) (tree_of condition.now)
         (node_of front.now.condition)) }
     ensures kept { IfOk result (λ _. known.new ≡ known.old) }
 {
     test(condition, &front.condition)?;
-    quantify(alloc, known, front.variables.as_slice(), condition)
+    quantify(known, front.variables.as_slice(), condition)
 }

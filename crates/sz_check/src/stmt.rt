@@ -17,9 +17,8 @@ use crate::quantified::{Variable, judge_bound, judge_front, judge_quantified};
 use crate::simple::{
     judge_between, judge_definition, judge_first, judge_return, judge_simple, judge_test, nothing,
 };
-use std::alloc::Global;
 use sz_check_expr::judge_exp;
-use sz_check_names::{Cause, JudgeError, Known, Site};
+use sz_check_names::{Cause, JudgeError, Known, Site, Verdict};
 use sz_core::{CoreExpr, CoreStmt};
 use sz_tree::{Expr, First, Quantifier, Simple, Stmt};
 use sz_types::{Place, Ty};
@@ -57,21 +56,15 @@ impl<'t> Around<'t> {
 // The statement.
 #[cycle(stmt)]
 #[tactic(auto, using(crate::proofs::StatementParts::empty_is, crate::proofs::StatementParts::define_is, crate::proofs::StatementParts::static_is, crate::proofs::StatementParts::typedef_is, crate::proofs::StatementParts::table_is, crate::proofs::StatementParts::nested_is, crate::proofs::StatementParts::simple_is, crate::proofs::StatementParts::break_is, crate::proofs::StatementParts::continue_is, crate::proofs::StatementParts::return_is, crate::proofs::StatementParts::emitting_is, crate::proofs::StatementParts::if_else_is, crate::proofs::StatementParts::done_is))]
-pub fn judge_stm(
-    alloc: Global,
-    known: &mut Known,
-    around: Around<'_>,
-    tree: &Stmt,
-) -> Result<CoreStmt, JudgeError>
-    ensures value { Judges (λ s. after_of known.new s) result
-        (judge_stm (around_of around.entry) (scene_of known.old) (stm_of tree.now)) }
+pub fn judge_stm(known: &mut Known, around: Around<'_>, tree: &Stmt) -> Verdict<CoreStmt>
+    ensures value { Judges (λ s. after_of known.new s) result (judge_stm (around_of around.entry) (scene_of known.old) (stm_of tree.now)) }
     ensures outside { IfOk result (λ _. known.new.outside ≡ known.old.outside) }
 {
     match tree {
-        Stmt::Empty(_) => Ok(nothing(alloc)),
-        Stmt::Block(place, trees) => { judge_block(alloc, known, around, *place, trees.as_slice()) }
-        Stmt::Declare(name, of, value) => judge_declared(alloc, known, name, of, value),
-        Stmt::Define(name, value) => judge_definition(alloc, known, name, value),
+        Stmt::Empty(_) => Ok(nothing(known.alloc())),
+        Stmt::Block(place, trees) => { judge_block(known, around, *place, trees.as_slice()) }
+        Stmt::Declare(name, of, value) => judge_declared(known, name, of, value),
+        Stmt::Define(name, value) => judge_definition(known, name, value),
         Stmt::Static(place, _, _, _) | Stmt::Type(place, _, _) => Err(JudgeError::at(
             Cause::Misplaced,
             *place,
@@ -80,104 +73,73 @@ pub fn judge_stm(
             Cause::Misplaced,
             name.place(),
         )),
-        Stmt::Simple(tree) => judge_simple(alloc, known, tree),
-        Stmt::If(place, test, taken, None) => {
-            judge_if_only(alloc, known, around, *place, taken, test)
-        }
+        Stmt::Simple(tree) => judge_simple(known, tree),
+        Stmt::If(place, test, taken, None) => { judge_if_only(known, around, *place, taken, test) }
         Stmt::If(place, test, taken, Some(other)) => {
-            let node = judge_exp(alloc, known, Site::Statement, None, test)?;
-            let taken = judge_inside(alloc, known, around, taken)?;
-            judge_else(alloc, known, around, *place, other, test, node, taken)
+            let node = judge_exp(known, Site::Statement, None, test)?;
+            let taken = judge_inside(known, around, taken)?;
+            judge_else(known, around, *place, other, test, node, taken)
         }
-        Stmt::While(place, test, body) => judge_while(alloc, known, around, *place, body, test),
-        Stmt::DoWhile(place, body, test) => {
-            judge_do_while(alloc, known, around, *place, body, test)
-        }
+        Stmt::While(place, test, body) => judge_while(known, around, *place, body, test),
+        Stmt::DoWhile(place, body, test) => { judge_do_while(known, around, *place, body, test) }
         Stmt::For(place, first, test, between, body) => {
-            judge_for(alloc, known, around, *place, body, first, test, between)
+            judge_for(known, around, *place, body, first, test, between)
         }
         Stmt::Break(place) if !around.in_loop => Err(JudgeError::at(Cause::Misplaced, *place)),
         Stmt::Continue(place) if !around.in_loop => Err(JudgeError::at(Cause::Misplaced, *place)),
         Stmt::Break(_) => Ok(CoreStmt::Break),
         Stmt::Continue(_) => Ok(CoreStmt::Continue),
-        Stmt::Return(place, value) => judge_return(alloc, known, *place, around.result, value),
+        Stmt::Return(place, value) => judge_return(known, *place, around.result, value),
         Stmt::Emit(place, name, indexes, value, weight) => {
-            judge_emit(
-                alloc,
-                known,
-                *place,
-                name,
-                indexes.as_slice(),
-                value,
-                weight,
-            )
+            judge_emit(known, *place, name, indexes.as_slice(), value, weight)
         }
-        Stmt::When(place, quantifiers, condition, body) => {
-            judge_when(
-                alloc,
-                known,
-                around,
-                *place,
-                body,
-                quantifiers.as_slice(),
-                condition,
-            )
+        Stmt::When(place, quantifiers, test, body) => {
+            judge_when(known, around, *place, body, quantifiers.as_slice(), test)
         }
     }
 }
 
 // A part statement, which is judged in a block of its own, and stands in a box.
 #[cycle(stmt)]
-fn judge_inside(
-    alloc: Global,
-    known: &mut Known,
-    around: Around<'_>,
-    tree: &Stmt,
-) -> Result<Box<CoreStmt>, JudgeError>
+fn judge_inside(known: &mut Known, around: Around<'_>, tree: &Stmt) -> Verdict<Box<CoreStmt>>
     ensures value { Judges (λ s. after_of known.new s.value) result
         (judge_inside (around_of around.entry) (scene_of known.old) (stm_of tree.now)) }
     ensures outside { IfOk result (λ _. known.new.outside ≡ known.old.outside) }
 {
     known.open()?;
-    let statement = judge_stm(alloc, known, around, tree)?;
+    let statement = judge_stm(known, around, tree)?;
     known.close();
-    Ok(boxed(alloc, statement)?)
+    Ok(boxed(known.alloc(), statement)?)
 }
 
 #[cycle(stmt)]
 #[tactic(auto, unfolding(sz_check_rules::specs::JudgingStatements::judge_stm))]
 fn judge_block(
-    alloc: Global,
     known: &mut Known,
     around: Around<'_>,
     place: Place,
     trees: &[Stmt],
-) -> Result<CoreStmt, JudgeError>
+) -> Verdict<CoreStmt>
     ensures value { Judges (λ s. after_of known.new s) result
         (judge_stm (around_of around.entry) (scene_of known.old) (block place (stms_of (each stm_of trees.now)))) }
     ensures outside { IfOk result (λ _. known.new.outside ≡ known.old.outside) }
 {
     known.open()?;
-    let statements = judge_stms(alloc, known, around, trees)?;
+    let statements = judge_stms(known, around, trees)?;
     known.close();
     Ok(CoreStmt::block(statements))
 }
 
 // Statements in order.
 #[cycle(stmt)]
-pub fn judge_stms(
-    alloc: Global,
-    known: &mut Known,
-    around: Around<'_>,
-    trees: &[Stmt],
-) -> Result<Vec<CoreStmt>, JudgeError>
+pub fn judge_stms(known: &mut Known, around: Around<'_>, trees: &[Stmt]) -> Verdict<Vec<CoreStmt>>
     ensures value { Judges (λ ss. all_after_of known.new ss.items) result
         (judge_stms (around_of around.entry) (scene_of known.old) (stms_of (each stm_of trees.now))) }
     ensures outside { IfOk result (λ _. known.new.outside ≡ known.old.outside) }
 {
-    let mut statements = Vec::new(alloc);
+    let mut statements = Vec::new(known.alloc());
     for tree in trees {
-        let statement = judge_stm(alloc, known, around, tree)?;
+        let statement = judge_stm(known, around, tree)?;
         statements.push(statement)?;
     }
     Ok(statements)
@@ -186,20 +148,19 @@ pub fn judge_stms(
 #[cycle(stmt)]
 #[tactic(auto, unfolding(sz_check_rules::specs::JudgingStatements::judge_stm), using(crate::proofs::StatementParts::done_is))]
 fn judge_if_only(
-    alloc: Global,
     known: &mut Known,
     around: Around<'_>,
     place: Place,
     taken: &Stmt,
     condition: &Expr,
-) -> Result<CoreStmt, JudgeError>
+) -> Verdict<CoreStmt>
     ensures value { Judges (λ s. after_of known.new s) result
         (judge_stm (around_of around.entry) (scene_of known.old) (if_only place (tree_of condition.now) (stm_of taken.now))) }
     ensures outside { IfOk result (λ _. known.new.outside ≡ known.old.outside) }
 {
-    let other = boxed(alloc, nothing(alloc))?;
-    let node = judge_exp(alloc, known, Site::Statement, None, condition)?;
-    let taken = judge_inside(alloc, known, around, taken)?;
+    let other = boxed(known.alloc(), nothing(known.alloc()))?;
+    let node = judge_exp(known, Site::Statement, None, condition)?;
+    let taken = judge_inside(known, around, taken)?;
     branch(place, condition, node, taken, other)
 }
 
@@ -207,7 +168,6 @@ fn judge_if_only(
 #[cycle(stmt)]
 #[tactic(auto, using(crate::proofs::StatementParts::done_is))]
 fn judge_else(
-    alloc: Global,
     known: &mut Known,
     around: Around<'_>,
     place: Place,
@@ -215,51 +175,49 @@ fn judge_else(
     condition: &Expr,
     node: CoreExpr,
     taken: Box<CoreStmt>,
-) -> Result<CoreStmt, JudgeError>
+) -> Verdict<CoreStmt>
     ensures value { Judges (λ s. after_of known.new s) result
         (judge_else (around_of around.entry) (scene_of known.old) place (tree_of condition.now) (node_of node)
         (core_stm_of taken.value) (stm_of other.now)) }
     ensures outside { IfOk result (λ _. known.new.outside ≡ known.old.outside) }
 {
-    let other = judge_inside(alloc, known, around, other)?;
+    let other = judge_inside(known, around, other)?;
     branch(place, condition, node, taken, other)
 }
 
 #[cycle(stmt)]
 #[tactic(auto, unfolding(sz_check_rules::specs::JudgingStatements::judge_stm), using(crate::proofs::StatementParts::done_is))]
 fn judge_while(
-    alloc: Global,
     known: &mut Known,
     around: Around<'_>,
     place: Place,
     body: &Stmt,
     condition: &Expr,
-) -> Result<CoreStmt, JudgeError>
+) -> Verdict<CoreStmt>
     ensures value { Judges (λ s. after_of known.new s) result
         (judge_stm (around_of around.entry) (scene_of known.old) (while place (tree_of condition.now) (stm_of body.now))) }
     ensures outside { IfOk result (λ _. known.new.outside ≡ known.old.outside) }
 {
-    let node = judge_exp(alloc, known, Site::Statement, None, condition)?;
-    let body = judge_inside(alloc, known, around.inside_loop(), body)?;
+    let node = judge_exp(known, Site::Statement, None, condition)?;
+    let body = judge_inside(known, around.inside_loop(), body)?;
     while_loop(place, condition, node, body)
 }
 
 #[cycle(stmt)]
 #[tactic(auto, unfolding(sz_check_rules::specs::JudgingStatements::judge_stm), using(crate::proofs::StatementParts::done_is))]
 fn judge_do_while(
-    alloc: Global,
     known: &mut Known,
     around: Around<'_>,
     place: Place,
     body: &Stmt,
     condition: &Expr,
-) -> Result<CoreStmt, JudgeError>
+) -> Verdict<CoreStmt>
     ensures value { Judges (λ s. after_of known.new s) result
         (judge_stm (around_of around.entry) (scene_of known.old) (do_while place (stm_of body.now) (tree_of condition.now))) }
     ensures outside { IfOk result (λ _. known.new.outside ≡ known.old.outside) }
 {
-    let body = judge_inside(alloc, known, around.inside_loop(), body)?;
-    let node = judge_exp(alloc, known, Site::Statement, None, condition)?;
+    let body = judge_inside(known, around.inside_loop(), body)?;
+    let node = judge_exp(known, Site::Statement, None, condition)?;
     do_while_loop(place, condition, body, node)
 }
 
@@ -267,28 +225,26 @@ fn judge_do_while(
 #[cycle(stmt)]
 #[tactic(auto, using(crate::proofs::StatementParts::done_is))]
 fn judge_turns(
-    alloc: Global,
     known: &mut Known,
     around: Around<'_>,
     place: Place,
     body: &Stmt,
     condition: &Option<Expr>,
     between: &Option<Simple>,
-) -> Result<CoreStmt, JudgeError>
+) -> Verdict<CoreStmt>
     ensures value { Judges (λ s. after_of known.new s) result
         (judge_turns (around_of around.entry) (scene_of known.old) place (option_map tree_of condition.now)
         (option_map simple_of between.now) (stm_of body.now)) }
     ensures outside { IfOk result (λ _. known.new.outside ≡ known.old.outside) }
 {
-    let node = judge_test(alloc, known, condition)?;
-    let step = judge_between(alloc, known, between)?;
-    let body = judge_inside(alloc, known, around.inside_loop(), body)?;
+    let node = judge_test(known, condition)?;
+    let step = judge_between(known, between)?;
+    let body = judge_inside(known, around.inside_loop(), body)?;
     for_loop(place, condition, node, step, body)
 }
 
 #[cycle(stmt)]
 fn judge_for(
-    alloc: Global,
     known: &mut Known,
     around: Around<'_>,
     place: Place,
@@ -296,16 +252,16 @@ fn judge_for(
     first: &Option<First>,
     condition: &Option<Expr>,
     between: &Option<Simple>,
-) -> Result<CoreStmt, JudgeError>
+) -> Verdict<CoreStmt>
     ensures value { Judges (λ s. after_of known.new s) result
         (judge_stm (around_of around.entry) (scene_of known.old) (for_loop place (option_map first_of first.now)
         (option_map tree_of condition.now) (option_map simple_of between.now) (stm_of body.now))) }
     ensures outside { IfOk result (λ _. known.new.outside ≡ known.old.outside) }
 {
     known.open()?;
-    let start = judge_first(alloc, known, first)?;
-    let front = alone(alloc, start)?;
-    let turns = judge_turns(alloc, known, around, place, body, condition, between)?;
+    let start = judge_first(known, first)?;
+    let front = alone(known.alloc(), start)?;
+    let turns = judge_turns(known, around, place, body, condition, between)?;
     known.close();
     Ok(joined(front, turns)?)
 }
@@ -313,18 +269,17 @@ fn judge_for(
 // The statement inside a `when`, where it sees these variables.
 #[cycle(stmt)]
 fn judge_bound_body(
-    alloc: Global,
     known: &mut Known,
     around: Around<'_>,
     tree: &Stmt,
     variables: &[Variable<'_>],
-) -> Result<Box<CoreStmt>, JudgeError>
+) -> Verdict<Box<CoreStmt>>
     ensures value { Judges (λ s. after_of known.new s.value) result
         (judge_bound_body (around_of around.entry) (scene_of known.old) (each variable_of variables.now) (stm_of tree.now)) }
     ensures outside { IfOk result (λ _. known.new.outside ≡ known.old.outside) }
 {
-    judge_bound(alloc, known, variables)?;
-    let statement = judge_inside(alloc, known, around.out_of_loops(), tree)?;
+    judge_bound(known, variables)?;
+    let statement = judge_inside(known, around.out_of_loops(), tree)?;
     known.close();
     Ok(statement)
 }
@@ -332,21 +287,20 @@ fn judge_bound_body(
 #[cycle(stmt)]
 #[tactic(auto, unfolding(sz_check_rules::specs::JudgingStatements::judge_stm))]
 fn judge_when(
-    alloc: Global,
     known: &mut Known,
     around: Around<'_>,
     place: Place,
     body: &Stmt,
     quantifiers: &[Quantifier],
     condition: &Expr,
-) -> Result<CoreStmt, JudgeError>
+) -> Verdict<CoreStmt>
     ensures value { Judges (λ s. after_of known.new s) result
         (judge_stm (around_of around.entry) (scene_of known.old)
         (when place (each quantifier_of quantifiers.now) (tree_of condition.now) (stm_of body.now))) }
     ensures outside { IfOk result (λ _. known.new.outside ≡ known.old.outside) }
 {
-    let front = judge_front(alloc, known, quantifiers, condition)?;
-    let body = judge_bound_body(alloc, known, around, body, front.variables.as_slice())?;
-    let variables = judge_quantified(alloc, known, &front, condition)?;
+    let front = judge_front(known, quantifiers, condition)?;
+    let body = judge_bound_body(known, around, body, front.variables.as_slice())?;
+    let variables = judge_quantified(known, &front, condition)?;
     Ok(CoreStmt::When(place, variables, front.condition, body))
 }

@@ -11,7 +11,7 @@ ghost use Rattle.sz_check_names.specs.Outcome.{Judges};
 
 use std::alloc::{AllocError, Global};
 use sz_check_expr::{agrees, field_in, judge_exp, whole};
-use sz_check_names::{Cause, JudgeError, Known, Means, Site, small};
+use sz_check_names::{Cause, JudgeError, Known, Means, Site, Verdict, small};
 use sz_core::{CoreExpr, CoreStep};
 use sz_tree::{Expr, Name, Step};
 use sz_types::{Kind, Place, Ty, copy_ty, type_kind};
@@ -27,7 +27,7 @@ pub struct Target {
 }
 
 // Where a path begins.
-fn target_of(alloc: Global, name: &Name, means: Means<'_>) -> Result<Target, JudgeError>
+fn target_of(alloc: Global, name: &Name, means: Means<'_>) -> Verdict<Target>
     ensures value { Judges target_seen result (target_of name.now (means_of means.entry)) }
 {
     let (local, ty, assignable) = match means {
@@ -71,8 +71,7 @@ fn into_string(target: Target, node: CoreExpr, ty: Ty) -> Result<Target, AllocEr
 
 // A step by an index to a value of this type: to an element, to the value of a key, or into a string.
 fn to_part(target: Target, node: CoreExpr, ty: Ty) -> Result<Target, AllocError>
-    ensures value { IfOk result
-        (λ made. target_seen made ≡ to_part (target_seen target) (seen target.ty) (node_of node) (seen ty)) }
+    ensures value { IfOk result (λ made. target_seen made ≡ to_part (target_seen target) (seen target.ty) (node_of node) (seen ty)) }
 {
     match type_kind(&target.ty) {
         Kind::Str | Kind::Bytes => into_string(target, node, ty),
@@ -87,7 +86,7 @@ fn part_type(
     target: &Target,
     tree: &Expr,
     node: &CoreExpr,
-) -> Result<Ty, JudgeError>
+) -> Verdict<Ty>
     ensures value { Judges (λ ty. to_part (target_seen target.now) (seen target.now.ty) (node_of node.now) (seen ty)) result
         (indexed place (target_seen target.now) (seen target.now.ty) (tree_of tree.now) (node_of node.now)) }
 {
@@ -115,16 +114,15 @@ fn indexed(
     target: Target,
     tree: &Expr,
     node: CoreExpr,
-) -> Result<Target, JudgeError>
-    ensures value { Judges target_seen result
-        (indexed place (target_seen target) (seen target.ty) (tree_of tree.now) (node_of node)) }
+) -> Verdict<Target>
+    ensures value { Judges target_seen result (indexed place (target_seen target) (seen target.ty) (tree_of tree.now) (node_of node)) }
 {
     let ty = part_type(alloc, place, &target, tree, &node)?;
     Ok(to_part(target, node, ty)?)
 }
 
 // The field of a value of this type: its number, and its type.
-fn field_part(alloc: Global, place: Place, of: &Ty, name: &Name) -> Result<(u32, Ty), JudgeError>
+fn field_part(alloc: Global, place: Place, of: &Ty, name: &Name) -> Verdict<(u32, Ty)>
     ensures value { Judges part_of result (field_in place (seen of.now) name.now) }
 {
     let (number, ty) = field_in(alloc, place, of, name)?;
@@ -132,48 +130,35 @@ fn field_part(alloc: Global, place: Place, of: &Ty, name: &Name) -> Result<(u32,
 }
 
 // The next step of a path that begins at this place.
-fn judge_step(
-    alloc: Global,
-    known: &Known,
-    place: Place,
-    target: Target,
-    step: &Step,
-) -> Result<Target, JudgeError>
+fn judge_step(known: &Known, place: Place, target: Target, step: &Step) -> Verdict<Target>
     ensures value { Judges target_seen result (judge_step (scene_of known.now) place (target_seen target) (step_of step.now)) }
 {
     match step {
         Step::Index(tree) => {
-            let node = judge_exp(alloc, known, Site::Statement, None, tree)?;
-            indexed(alloc, place, target, tree, node)
+            let node = judge_exp(known, Site::Statement, None, tree)?;
+            indexed(known.alloc(), place, target, tree, node)
         }
         Step::Field(name) => {
-            let (number, ty) = field_part(alloc, place, &target.ty, name)?;
+            let (number, ty) = field_part(known.alloc(), place, &target.ty, name)?;
             Ok(stepped(target, CoreStep::Field(number), ty)?)
         }
     }
 }
 
 // The steps of a path that begins at this place, one after the other.
-fn judge_steps(
-    alloc: Global,
-    known: &Known,
-    place: Place,
-    first: Target,
-    steps: &[Step],
-) -> Result<Target, JudgeError>
-    ensures value { Judges target_seen result
-        (judge_steps (scene_of known.now) place (target_seen first) (each step_of steps.now)) }
+fn judge_steps(known: &Known, place: Place, first: Target, steps: &[Step]) -> Verdict<Target>
+    ensures value { Judges target_seen result (judge_steps (scene_of known.now) place (target_seen first) (each step_of steps.now)) }
 {
     let mut target = first;
     for step in steps {
-        let next = judge_step(alloc, known, place, target, step)?;
+        let next = judge_step(known, place, target, step)?;
         target = next;
     }
     Ok(target)
 }
 
 // What a path has come to, which has to be assignable. The name is that of the path's beginning.
-fn assignable(alloc: Global, name: &Name, target: Target) -> Result<Target, JudgeError>
+fn assignable(alloc: Global, name: &Name, target: Target) -> Verdict<Target>
     ensures value { Judges target_seen result (assignable name.now (target_seen target)) }
 {
     if target.assignable {
@@ -184,24 +169,19 @@ fn assignable(alloc: Global, name: &Name, target: Target) -> Result<Target, Judg
 }
 
 // A path, as a whole.
-pub fn judge_path(
-    alloc: Global,
-    known: &Known,
-    name: &Name,
-    steps: &[Step],
-) -> Result<Target, JudgeError>
+pub fn judge_path(known: &Known, name: &Name, steps: &[Step]) -> Verdict<Target>
     ensures value { Judges target_seen result (judge_path (scene_of known.now) (path_form name.now (each step_of steps.now))) }
 {
-    let first = target_of(alloc, name, known.look_up(alloc, Site::Statement, name)?)?;
-    let target = judge_steps(alloc, known, name.place(), first, steps)?;
-    assignable(alloc, name, target)
+    let first = target_of(known.alloc(), name, known.look_up(Site::Statement, name)?)?;
+    let target = judge_steps(known, name.place(), first, steps)?;
+    assignable(known.alloc(), name, target)
 }
 
 // A path that is a name alone.
 #[tactic(auto, unfolding(sz_check_rules::specs::JudgingPaths::judge_steps))]
-pub fn judge_variable(alloc: Global, known: &Known, name: &Name) -> Result<Target, JudgeError>
+pub fn judge_variable(known: &Known, name: &Name) -> Verdict<Target>
     ensures value { Judges target_seen result (judge_path (scene_of known.now) (path_form name.now [])) }
 {
-    let target = target_of(alloc, name, known.look_up(alloc, Site::Statement, name)?)?;
-    assignable(alloc, name, target)
+    let target = target_of(known.alloc(), name, known.look_up(Site::Statement, name)?)?;
+    assignable(known.alloc(), name, target)
 }

@@ -19,7 +19,7 @@ use crate::error::CheckError;
 use crate::program::judge_all;
 use crate::top::Top;
 use std::alloc::Global;
-use sz_check_names::{JudgeError, Known, Written};
+use sz_check_names::{Known, Verdict, Written};
 use sz_check_rules::{judged_programs_are_sound, types_may_be_written_first};
 use sz_core::{Item, Program};
 use sz_protofile_types::{NamedType, NamedTypes};
@@ -27,46 +27,42 @@ use sz_tree::{Name, Tree};
 use sz_types::{Place, Text, Tys, copy_ty};
 
 // A type under its name, which the innermost block doesn't have. No refusal can name its place.
-fn add_type(alloc: Global, known: &mut Known, named: &NamedType) -> Result<(), JudgeError>
+fn add_type(known: &mut Known, named: &NamedType) -> Verdict<()>
     requires free { IsFalse (has named.now.name known.old.innermost) }
     ensures value { Judges (λ _. scene_of known.new) result (good (with_named_type named.now known.old)) }
 {
-    let written = Written::Whole(copy_ty(alloc, &named.ty)?);
-    let text = Text::from_str(alloc, named.name.as_str())?;
+    let written = Written::Whole(copy_ty(known.alloc(), &named.ty)?);
+    let text = Text::from_str(known.alloc(), named.name.as_str())?;
     let name = Name::new(Place { line: 1, column: 1 }, text);
-    known.declare_type(alloc, &name, written)
+    known.declare_type(&name, written)
 }
 
 // Types under their names, in a block that has no names yet.
-fn add_types(alloc: Global, known: &mut Known, types: &[NamedType]) -> Result<(), JudgeError>
+fn add_types(known: &mut Known, types: &[NamedType]) -> Verdict<()>
     requires apart { IsTrue (are_distinct_texts (each (λ (t : TypeShape). t.name) types.now)) }
     requires empty { known.old.innermost ≡ [] }
     ensures value { Judges (λ _. scene_of known.new) result
         (good (record { blocks = block_of_types (named_shapes types.now) ∷ known.old.outside.seen; locals = known.old.locals })) }
 {
     for named in types {
-        add_type(alloc, known, named)?;
+        add_type(known, named)?;
     }
     Ok(())
 }
 
 // What is known at first: the types' names, in a block between the predeclared names and the program's own.
-fn known_with(alloc: Global, types: &NamedTypes) -> Result<Known, JudgeError>
+fn known_with(alloc: Global, types: &NamedTypes) -> Verdict<Known>
     requires sound { AreSound types.now }
     ensures value { Judges scene_of result (good (known_with (named_shapes types.now)).scene) }
 {
     let mut known = Known::predeclared(alloc)?;
-    add_types(alloc, &mut known, types.as_slice())?;
+    add_types(&mut known, types.as_slice())?;
     known.open()?;
     Ok(known)
 }
 
 // The items of a program, in order, and the types of the record's variables.
-fn judge_items(
-    alloc: Global,
-    tree: &Tree,
-    types: &NamedTypes,
-) -> Result<(Vec<Item>, Tys), JudgeError>
+fn judge_items(alloc: Global, tree: &Tree, types: &NamedTypes) -> Verdict<(Vec<Item>, Tys)>
     requires sound { AreSound types.now }
     ensures value { Judges core_seen result (judge_program_with (named_shapes types.now) (program_of tree.now)) }
 {
@@ -76,7 +72,7 @@ fn judge_items(
         statics: 0,
         functions: Vec::new(alloc),
     };
-    let items = judge_all(alloc, &mut top, tree.statements.as_slice())?;
+    let items = judge_all(&mut top, tree.statements.as_slice())?;
     Ok((items, top.known.into_locals()))
 }
 
