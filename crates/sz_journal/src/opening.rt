@@ -81,12 +81,7 @@ pub fn open_rounds<K: Disk, S: Keeper>(
 }
 
 // Begins the journal of the job with this entry, on a disk that holds none.
-fn start<K: Disk>(
-    alloc: Global,
-    disk: &mut K,
-    count: u64,
-    entry: &[u8],
-) -> Result<Tail, OpenError>
+fn start<K: Disk>(alloc: Global, disk: &mut K, count: u64, entry: &[u8]) -> Result<Tail, OpenError>
     requires { IfSome (K.bytes disk.old) (λ held. count ≡ length held) }
 
     ensures rounds { IfOk result (λ tail. rounds_of tail ≡ []) }

@@ -290,7 +290,7 @@ module _ (law : IsOneStanding) (s : RunSettings) (low : 1 ≤ s.shard) (no_save 
       same : rounds_of j ≡ before
       same = same_rounds law s plain name few low input held j (the_disk.bytes mid) (the_disk.may_leave mid) k fits before found
 
-      abbrev Left : List ℕ → Type 0
+      Left : List ℕ → Type 0
       Left image = IsLeftOr (the_disk.may_leave disk) name plain (source_of s input) held before later.added image
 
       -- once the journal is open, a crash leaves what a read gives
