@@ -31,9 +31,8 @@ use Rattle.sz_journal.specs.Opening.{FitsAnswer, FitsError, IsKept}
 use Rattle.sz_journal.specs.declared.error.OpenError.{OpenError}
 use Rattle.sz_journal.specs.declared.error.OpenError.TheVariants as errors
 use Rattle.sz_resume.specs.Standing.{IsFound, StandsFor}
-use Rattle.sz_resume.specs.Standing as by_rounds
 use Rattle.sz_resume.specs.Runs.{IsJournalOf}
-use Rattle.sz_resume.specs.Stops.{AreFirst, AreSmall, IsLeft}
+use Rattle.sz_resume.specs.Stops.{AreSmall, IsLeft}
 use Rattle.szl.specs.declared.status.Status.{Status}
 use Rattle.szl.specs.declared.status.Status.TheVariants as status
 use Rattle.szl.specs.declared.failure.Failure.{Failure}
