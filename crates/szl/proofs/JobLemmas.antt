@@ -8,7 +8,7 @@ use Rattle.sz_io.specs.declared.files.Files as files
 use Rattle.sz_disk.specs.Crashes.{Images, are_told}
 use Rattle.sz_disk.specs.declared.disk.Disk as disks
 use Rattle.sz_disk.specs.Crashing.{LeavesOnly}
-use Rattle.sz_disk.proofs.GateForCallers.{leaves_if, leaves_both}
+use Rattle.sz_disk.proofs.GateForCallers.{the_image, leaves_if, leaves_both}
 use Rattle.sz_mean.specs.Marked.{Marked, all_tables}
 use Rattle.sz_mean.specs.Programs.{statics}
 use Rattle.sz_machine.specs.Ends.{seen_fault}
@@ -31,9 +31,8 @@ use Rattle.sz_journal.specs.Opening.{FitsAnswer, FitsError, IsKept}
 use Rattle.sz_journal.specs.declared.error.OpenError.{OpenError}
 use Rattle.sz_journal.specs.declared.error.OpenError.TheVariants as errors
 use Rattle.sz_resume.specs.Standing.{IsFound, StandsFor}
-use Rattle.sz_resume.specs.Standing as by_rounds
 use Rattle.sz_resume.specs.Runs.{IsJournalOf}
-use Rattle.sz_resume.specs.Stops.{AreFirst, AreSmall, IsLeft}
+use Rattle.sz_resume.specs.Stops.{AreSmall, IsLeft}
 use Rattle.szl.specs.declared.status.Status.{Status}
 use Rattle.szl.specs.declared.status.Status.TheVariants as status
 use Rattle.szl.specs.declared.failure.Failure.{Failure}
@@ -45,7 +44,7 @@ use Rattle.szl.specs.ProgramRuns.{GivesJob, IsJobOf}
 use Rattle.szl.specs.Records.{Cut}
 use Rattle.szl.specs.Shards.{shards_in, shard_sizes, job_of}
 use Rattle.szl.specs.Resuming.{last_gate, damaged_after, unless_journal, source_of, outcome_after_statics}
-use Rattle.szl.specs.ResumePromise.{IfKnown, IsRest, KeepsJob}
+use Rattle.szl.specs.ResumePromise.{IfKnown, IsRest, IsLeftOr, KeepsJob}
 use Rattle.szl.specs.Promise.{IfRead}
 use Rattle.szl.specs.JournalRuns.{failure_of_journal, as_memory, AnswersJob, IsAfterRounds, IsProgramOutcome, IfBegun, but_one}
 use Rattle.szl.proofs.AnswerLemmas.{cut_of, fault_is_numbered, same_outcome}
