@@ -38,7 +38,7 @@ pub can_take : {groups : List SavedState} (job : JobBytes) (decls : List Declara
 can_take job decls rounds round joined are =
     let saved = map-append saved_in rounds (round ∷ []) in
     let bounds : bounds_of (map saved_in rounds ++ round.saved ∷ []) ≡ all_bounds (rounds ++ round ∷ []) =
-        ap bounds_of (sym saved) ∙ bounds_are (rounds ++ round ∷ []) in
+    ap bounds_of (sym saved) ∙ bounds_are (rounds ++ round ∷ []) in
     let low : all_bounds (rounds ++ round ∷ []) ≤ 2 ^ 63 = are.bounds in
     record {
       before = nothing decls ∷ map saved_in rounds;

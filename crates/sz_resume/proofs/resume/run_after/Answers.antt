@@ -52,7 +52,6 @@ pub ended-requires : goal.ended-requires
 ended-requires g c =
     record { some = (all_tables c.args.run.now.job.compiled, rounds_of c.loop-intake.journal.tail, c.loop-intake.invariant.joined) }
 
-
 -- the answer where no shard is left
 pub returns-in-Some-clause-value : goal.returns-in-Some-clause-value
 returns-in-Some-clause-value g c input told all =
