@@ -307,3 +307,66 @@ fn is_passed_on(rt: &HostRuntime) -> bool {
 fn a_stream_that_holds_bytes_back_passes_them_on_at_once(rt: HostRuntime) {
     assert!(&rt; is_passed_on(&rt));
 }
+
+// A stream whose first writes and flushes are interrupted by signals, and which takes every byte after them.
+struct Interrupted {
+    writes: u32,
+    flushes: u32,
+    taken: usize,
+}
+
+impl Write for Interrupted {
+    fn write(&mut self, piece: &[u8]) -> io::Result<usize> {
+        if self.writes > 0 {
+            self.writes -= 1;
+            return Err(io::ErrorKind::Interrupted.into());
+        }
+        self.taken = self.taken.saturating_add(piece.len());
+        Ok(piece.len())
+    }
+
+    fn flush(&mut self) -> io::Result<()> {
+        if self.flushes > 0 {
+            self.flushes -= 1;
+            return Err(io::ErrorKind::Interrupted.into());
+        }
+        Ok(())
+    }
+}
+
+// How many writes and flushes are interrupted, what writing the text answers, and how many bytes of it the stream took.
+type Interruptions = (u32, u32, Result<(), WriteError>, usize);
+
+const INTERRUPTIONS: &[Interruptions] = &[
+    (0, 0, Ok(()), 8),
+    (99, 0, Ok(()), 8),
+    (0, 99, Ok(()), 8),
+    (99, 99, Ok(()), 8),
+    (100, 0, Err(WriteError::Failed(0)), 0),
+    // The bytes that went out before the flush failed aren't written again.
+    (0, 100, Err(WriteError::Failed(0)), 8),
+];
+
+fn interruptions() -> &'static [Interruptions] {
+    INTERRUPTIONS
+}
+
+// Whether the text is written to a stream that is interrupted as a row says.
+fn is_tried_again(row: &Interruptions) -> bool {
+    let (writes, flushes, answer, taken) = *row;
+    let mut stream = Interrupted {
+        writes,
+        flushes,
+        taken: 0,
+    };
+    let written = write_whole(&mut OsSink::new(&mut stream), text());
+    written == answer && stream.taken == taken
+}
+
+#[test]
+fn a_call_that_a_signal_interrupts_is_made_again(rt: HostRuntime) {
+    for row in interruptions() {
+        let same = is_tried_again(row);
+        assert!(&rt; same, "at {} writes, {} flushes", row.0, row.1);
+    }
+}

@@ -2,7 +2,11 @@
 //! joins saved tables, or tests itself.
 #![tactic(auto)]
 
-use std::alloc::Global;
+mod identity;
+
+use identity::{Refusal, keep_off_the_journal};
+use std::alloc::{Alloc, Global};
+use std::env::Env;
 use std::fs::Files;
 use std::io::{Input, Stderr, Stdout};
 use std::process::ExitCode;
@@ -10,12 +14,21 @@ use std::thread::{self, Builder, Threads};
 use sz_disk::OsDisk;
 use sz_io::{NoGate, OsFiles, OsSink, write_line};
 use sz_process::{given_words, stand_ins};
-use szl::{Setup, Stack, Status, szl_disk_main_on};
+use szl::{Setup, Stack, szl_disk_main_on};
 
 /// Tells why no command line is run, and gives the exit status.
 fn tell(err: Stderr, line: &[u8], code: u8) -> ExitCode {
     write_line(&mut OsSink::new(err), line);
     ExitCode::from(code)
+}
+
+/// The words of the command line, but of a job that would read or write its own journal.
+fn words_to_run<R: Env + Alloc<A = Global> + Files>(rt: &R) -> Result<Vec<String>, Refusal> {
+    let Ok(words) = given_words(rt) else {
+        return Err(Refusal::NoMemory);
+    };
+    keep_off_the_journal(rt, rt.alloc(), &words)?;
+    Ok(words)
 }
 
 /// Runs the command line of these words over real files and streams, with this disk, on the stack that there is, and gives the exit status.
@@ -54,8 +67,9 @@ fn main(rt: HostRuntime) -> ExitCode {
         Err(missing) => return tell(rt.stderr(), missing.line(), missing.code()),
     };
     let alloc: Global = rt.alloc();
-    let Ok(words) = given_words(&rt) else {
-        return tell(rt.stderr(), b"out of memory\n", Status::NoMemory.code());
+    let words = match words_to_run(&rt) {
+        Ok(words) => words,
+        Err(refusal) => return tell(rt.stderr(), refusal.line(), refusal.status().code()),
     };
     let code = thread::scope(thread::scope_env(), &rt, |scope| {
         for part in [1, 2, 4, 8] {
