@@ -36,6 +36,37 @@ _szl_explain() {
 }
 complete -F _szl_explain szl-explain
 
+# Completion of szl-cut: the name of a file, and then a size.
+_szl_cut() {
+    COMPREPLY=()
+    [ "$COMP_CWORD" -eq 1 ] || return
+    compopt -o filenames
+    mapfile -t COMPREPLY < <(compgen -f -- "${COMP_WORDS[COMP_CWORD]}")
+}
+complete -F _szl_cut szl-cut
+
+# Completion of szl-proto: folders, and names of files in the working directory and in these folders.
+_szl_proto() {
+    local word=${COMP_WORDS[COMP_CWORD]} before=${COMP_WORDS[COMP_CWORD-1]} at
+    [ "$before" = "=" ] && before=${COMP_WORDS[COMP_CWORD-2]}
+    [ "$word" = "=" ] && word=
+    COMPREPLY=()
+    if [[ $word == -* ]]; then
+        mapfile -t COMPREPLY < <(compgen -W "-I --proto_path" -- "$word")
+        return
+    fi
+    compopt -o filenames
+    if [[ $before == -I || $before == --proto_path ]]; then
+        mapfile -t COMPREPLY < <(compgen -d -- "$word")
+        return
+    fi
+    mapfile -t COMPREPLY < <(compgen -f -- "$word")
+    for ((at = 1; at < COMP_CWORD; at++)); do
+        [ "${COMP_WORDS[at-1]}" = -I ] && mapfile -t -O ${#COMPREPLY[@]} COMPREPLY < <(cd "${COMP_WORDS[at]}" 2>/dev/null && compgen -f -- "$word")
+    done
+}
+complete -F _szl_proto szl-proto
+
 # Completion of szl-rows.
 _szl_rows() {
     local word=${COMP_WORDS[COMP_CWORD]}

@@ -68,6 +68,12 @@ def needs(*programs):
         not_tried(f"no {', '.join(lacking)}")
 
 
+def lacks_for_proto():
+    """What bin/szl-proto needs and this machine hasn't."""
+    module = subprocess.run(["/usr/bin/python3", "-c", "import google.protobuf.descriptor_pb2"], capture_output=True)
+    return [it for it, is_there in [("protoc", shutil.which("protoc")), ("python3-protobuf", module.returncode == 0)] if not is_there]
+
+
 def fail(why):
     """Ends a tool that has met what it doesn't expect."""
     sys.exit(f"{NAME}: {why}")
@@ -148,7 +154,7 @@ def programs_in(page):
     return [plain(it.split(" => ")[0]) for it in page.split("\n") if " => " in it and not it.startswith(("$", "!", "<"))]
 
 
-# Messages and times
+# Messages, values and times
 
 
 def varint(number):
@@ -158,6 +164,26 @@ def varint(number):
         made.append(number & 127 | 128)
         number >>= 7
     return bytes([*made, number])
+
+
+ESCAPES = {"\n": "\\n", "\t": "\\t", "\r": "\\r", '"': '\\"', "\\": "\\\\"}
+
+
+def shown(value):
+    """A value as tables print it; an array or a tuple is a list here."""
+    if isinstance(value, bool):
+        return "true" if value else "false"
+    if isinstance(value, str):
+        return '"' + "".join(ESCAPES.get(it) or (it if " " <= it != "\x7f" else f"\\x{ord(it):02x}") for it in value) + '"'
+    if isinstance(value, bytes):
+        return 'B"' + "".join(ESCAPES.get(it) or (it if " " <= it <= "~" else f"\\x{ord(it):02x}") for it in value.decode("latin-1")) + '"'
+    return "{" + ", ".join(map(shown, value)) + "}" if isinstance(value, list) else str(value)
+
+
+def with_sign(number, bits=64):
+    """The number of so many bits with the highest one as its sign, as the language reads whole numbers."""
+    number &= (1 << bits) - 1
+    return number - (1 << bits) if number >> (bits - 1) else number
 
 
 def timed(work):
