@@ -309,6 +309,7 @@ fn a_stream_that_holds_bytes_back_passes_them_on_at_once(rt: HostRuntime) {
 }
 
 // A stream whose first writes and flushes are interrupted by signals, and which takes every byte after them.
+#[derive(Drop)]
 struct Interrupted {
     writes: u32,
     flushes: u32,
