@@ -70,8 +70,10 @@ def needs(*programs):
 
 def lacks_for_proto():
     """What bin/szl-proto needs and this machine hasn't."""
+    if lacking := [it for it in ("/usr/bin/python3", "protoc") if shutil.which(it) is None]:
+        return lacking
     module = subprocess.run(["/usr/bin/python3", "-c", "import google.protobuf.descriptor_pb2"], capture_output=True)
-    return [it for it, is_there in [("protoc", shutil.which("protoc")), ("python3-protobuf", module.returncode == 0)] if not is_there]
+    return ["python3-protobuf"] if module.returncode else []
 
 
 def fail(why):
